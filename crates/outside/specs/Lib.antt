@@ -1,3 +1,5 @@
 pub mod Faults
 pub mod Store
 pub mod Sink
+pub mod MemStore
+pub mod MemSink

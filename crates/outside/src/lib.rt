@@ -3,5 +3,9 @@
 //! Programs are written over the traits. `MemStore` and `MemSink` are both in memory, with faults on demand.
 #![tactic(auto)]
 
+pub mod mem_sink;
+pub mod mem_store;
 pub mod sink;
 pub mod store;
+#[cfg(test)]
+mod tests;

@@ -49,6 +49,7 @@ pub trait Store {
         ensures kept { holds self.new ≡ holds self.old }
         ensures held { IfOk result (λ bytes. IsHeld (holds self.old) name.now limit bytes.items) }
         ensures refused { IfErr result (λ e. IsRefused (holds self.old) name.now limit e) }
-        ensures cause { HasCause (faults self.old) (faults self.new) (blamed self.old) (blamed self.new) name.now result }
+        ensures cause { HasCause (faults self.old) (faults self.new)
+            (blamed self.old) (blamed self.new) name.now result }
         ensures never_falls { faults self.old ≤ faults self.new };
 }
