@@ -1,0 +1,210 @@
+// A small executable, cut off at each length and with changed fields. The fields are those of the gABI's tables.
+use crate::{ElfError, ElfView};
+use byteorder::{BigEndian, ByteOrder};
+use word_ops::range::Range;
+
+// One segment of two words, the symbol `main` at their start, and the sections of the symbols and their names.
+const SIZE: usize = 252;
+
+const WORDS: [u32; 63] = [
+    0x7f45_4c46,
+    0x0102_0100,
+    0x0000_0000,
+    0x0000_0000,
+    0x0002_0014,
+    0x0000_0001,
+    0x1001_0000,
+    0x0000_0034,
+    0x0000_0084,
+    0x0000_0000,
+    0x0034_0020,
+    0x0001_0028,
+    0x0003_0000,
+    0x0000_0001,
+    0x0000_0054,
+    0x1001_0000,
+    0x1001_0000,
+    0x0000_0008,
+    0x0000_0008,
+    0x0000_0005,
+    0x0000_0004,
+    0x3860_0007,
+    0x4e80_0020,
+    0x006d_6169,
+    0x6e00_0000,
+    0x0000_0000,
+    0x0000_0000,
+    0x0000_0000,
+    0x0000_0000,
+    0x0000_0001,
+    0x1001_0000,
+    0x0000_0008,
+    0x1200_fff1,
+    0x0000_0000,
+    0x0000_0000,
+    0x0000_0000,
+    0x0000_0000,
+    0x0000_0000,
+    0x0000_0000,
+    0x0000_0000,
+    0x0000_0000,
+    0x0000_0000,
+    0x0000_0000,
+    0x0000_0000,
+    0x0000_0002,
+    0x0000_0000,
+    0x0000_0000,
+    0x0000_0064,
+    0x0000_0020,
+    0x0000_0002,
+    0x0000_0001,
+    0x0000_0004,
+    0x0000_0010,
+    0x0000_0000,
+    0x0000_0003,
+    0x0000_0000,
+    0x0000_0000,
+    0x0000_005c,
+    0x0000_0006,
+    0x0000_0000,
+    0x0000_0000,
+    0x0000_0001,
+    0x0000_0000,
+];
+
+// Word `i` of the file, with the words at some places changed. Behind the file the program header stands again.
+fn word_of(i: usize, changes: &[(usize, u32)]) -> u32 {
+    for (at, word) in changes {
+        if *at / 4 == i {
+            return *word;
+        }
+    }
+    if i < WORDS.len() {
+        WORDS[i]
+    } else {
+        WORDS[13 + (i - WORDS.len()) % 8]
+    }
+}
+
+fn fill(file: &mut [u8], changes: &[(usize, u32)]) {
+    for i in 0..file.len() / 4 {
+        BigEndian::write_u32(&mut file[4 * i..], word_of(i, changes));
+    }
+}
+
+#[test]
+fn reads_no_cut_file(rt: HostRuntime) {
+    let mut file = [0; SIZE];
+    fill(&mut file, &[]);
+    for n in 0..SIZE {
+        let error = match n {
+            0..=51 => ElfError::Short(n as u32),
+            52..=83 => ElfError::Short(28),
+            _ => ElfError::Short(32),
+        };
+        assert_eq!(rt; ElfView::read(&file[..n]).err(), Some(error), "at {n}");
+    }
+}
+
+#[test]
+fn reads_no_changed_header(rt: HostRuntime) {
+    let rows = [
+        (4, 0x0202_0100, ElfError::Ident(4)),
+        (16, 0x0003_0014, ElfError::Kind(16)),
+        (16, 0x0002_0015, ElfError::Machine(18)),
+        (40, 0x0035_0020, ElfError::EntrySize(40)),
+        (44, 0x0101_0028, ElfError::Limit(44, 256)),
+        (40, 0x0034_0021, ElfError::EntrySize(42)),
+        (44, 0x0001_0029, ElfError::EntrySize(46)),
+        (28, 0xffff_ffff, ElfError::Short(28)),
+        (52, 2, ElfError::Dynamic(52)),
+        (52, 3, ElfError::Dynamic(52)),
+        (68, 9, ElfError::SegRange(52)),
+        (60, 0xffff_fffc, ElfError::SegRange(52)),
+        (56, 0xffff_fffc, ElfError::SegRange(52)),
+        (72, 0x0400_0001, ElfError::Limit(52, 67_108_864)),
+        (176, 3, ElfError::NoSymtab(32)),
+        (216, 2, ElfError::TwoSymtabs(212)),
+        (208, 17, ElfError::EntrySize(208)),
+        (196, 3, ElfError::SymRange(172)),
+        (192, 33, ElfError::SymRange(172)),
+        (232, 5, ElfError::NameEnd(212)),
+        (116, 6, ElfError::NameEnd(116)),
+    ];
+    for (at, word, error) in rows {
+        let mut file = [0; SIZE];
+        fill(&mut file, &[(at, word)]);
+        assert_eq!(rt;
+            ElfView::read(&file).err(),
+            Some(error),
+            "word {word} at {at}"
+        );
+    }
+}
+
+// Two copies of the program header stand behind the file.
+#[test]
+fn reads_no_segments_that_meet(rt: HostRuntime) {
+    let mut file = [0; SIZE + 64];
+    fill(&mut file, &[(28, 252), (44, 0x0002_0028)]);
+    assert_eq!(rt; ElfView::read(&file).err(), Some(ElfError::SegOverlap(284)));
+}
+
+#[test]
+fn reads_a_file(rt: HostRuntime) {
+    let mut file = [0; SIZE];
+    fill(&mut file, &[]);
+    let Ok(view) = ElfView::read(&file) else {
+        assert!(rt; false, "refused");
+        return;
+    };
+    assert_eq!(rt; view.entry(), 0x1001_0000);
+    assert_eq!(rt; view.segments(), 1);
+    assert_eq!(rt; view.symbols(), 2);
+    if 0 < view.segments() {
+        let segment = view.segment(0);
+        assert_eq!(rt;
+            (segment.vaddr, segment.memsz, segment.flags),
+            (0x1001_0000, 8, 5)
+        );
+        assert_eq!(rt;
+            segment.bytes,
+            [0x38, 0x60, 0, 7, 0x4e, 0x80, 0, 0x20].as_slice()
+        );
+    }
+    if 1 < view.symbols() {
+        let symbol = view.symbol(1);
+        assert_eq!(rt; symbol.name, b"main".as_slice());
+        assert_eq!(rt;
+            (symbol.value, symbol.size, symbol.shndx),
+            (0x1001_0000, 8, 0xfff1)
+        );
+        assert_eq!(rt; (symbol.binding, symbol.kind), (1, 2));
+    }
+    assert_eq!(rt; view.byte_at(0x1001_0003), Some(7));
+    assert_eq!(rt; view.byte_at(0x1001_0008), None);
+    assert_eq!(rt; view.word_at(0x1001_0004), Some(0x4e80_0020));
+    assert_eq!(rt; view.word_at(0x1001_0005), None);
+    assert_eq!(rt; view.flags_at(0x1001_0007), Some(5));
+    let Some(range) = Range::new(0x1001_0003, 0x1001_0005) else {
+        return;
+    };
+    assert!(rt; matches!(view.bytes(&range), Some([7, 0x4e])), "held bytes");
+}
+
+// The file holds no byte of the segment, at an offset past its end.
+#[test]
+fn reads_a_segment_of_zeros(rt: HostRuntime) {
+    let mut file = [0; SIZE];
+    fill(&mut file, &[(68, 0), (56, 0xffff_fffc)]);
+    let Ok(view) = ElfView::read(&file) else {
+        assert!(rt; false, "refused");
+        return;
+    };
+    if 0 < view.segments() {
+        assert_eq!(rt; view.segment(0).bytes.len(), 0);
+    }
+    for a in 0x1001_0000..0x1001_0008 {
+        assert_eq!(rt; view.byte_at(a), Some(0), "at {a}");
+    }
+}

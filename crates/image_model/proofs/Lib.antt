@@ -1,0 +1,3 @@
+pub mod HeaderFacts
+pub mod Rows
+pub mod CutLemmas

@@ -1,0 +1,10 @@
+pub mod Bytes
+pub mod FileHeader
+pub mod ProgramHeader
+pub mod SectionHeader
+pub mod SymbolTable
+pub mod Image
+pub mod Tests
+pub mod Loaded
+pub mod Cuts
+pub mod Offsets
