@@ -1,0 +1,5 @@
+pub mod ShapeLemmas
+pub mod Rows
+pub mod PlaceRows
+pub mod UnitRows
+pub mod NamesLemmas

@@ -1,0 +1,9 @@
+use Rattle.std.proofs.Common.{◌≡◌, drop}
+use Rattle.std.specs.List.{enumerate_from}
+use Rattle.ordered_tests.specs.Checks.{each_check, first_fault}
+use Rattle.asm_shapes.specs.Shapes.{code_tests, place_tests}
+use Rattle.asm_shapes.proofs.function.check_code.Given as goal
+
+abbrev pub invariant-loop-at : goal.invariant-loop-at
+invariant-loop-at l =
+    first_fault (each_check (place_tests l.code) (enumerate_from l.at (drop l.at l.code))) ≡ first_fault (code_tests l.code)

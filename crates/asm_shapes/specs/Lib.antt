@@ -1,0 +1,4 @@
+pub mod Operands
+pub mod Shapes
+pub mod Signatures
+pub mod Units

@@ -1,0 +1,14 @@
+//! The shapes of functions, signatures and units: which a dump may have.
+#![tactic(auto)]
+
+mod function;
+mod operands;
+mod signature;
+#[cfg(test)]
+mod tests;
+mod unit;
+
+pub use function::valid_function;
+pub use operands::{frame_fits, instr_in_range, plain_in_range};
+pub use signature::{first_register, valid_sig};
+pub use unit::unit_fits;
