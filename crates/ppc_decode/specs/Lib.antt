@@ -1,0 +1,4 @@
+pub mod Decoding
+pub mod Operands
+pub mod Text
+pub mod Word

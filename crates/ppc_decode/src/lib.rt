@@ -1,0 +1,11 @@
+// Machine instructions: their words, back and forth, and their text.
+#![tactic(auto)]
+
+pub mod decoding;
+pub mod encoding;
+pub mod machine;
+pub mod operand;
+mod table;
+#[cfg(test)]
+mod tests;
+pub mod text;
