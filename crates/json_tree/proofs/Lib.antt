@@ -1,0 +1,4 @@
+pub mod Items
+pub mod NameLemmas
+pub mod Texts
+pub mod NameSets

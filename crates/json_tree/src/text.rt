@@ -1,0 +1,76 @@
+//! Texts, and words of a table.
+
+ghost use Rattle.std.specs.Prelude.{◌≡◌, IsTrue, map, option_map};
+ghost use Rattle.serde_json.specs.View.{view};
+ghost use Rattle.asm_syntax.specs.Names.{is_name};
+ghost use Rattle.json_tree.specs.Answers.{Gives, GivesAs};
+ghost use Rattle.json_tree.specs.Reading.{text, stated, field, if_there, look_up, word_of};
+ghost use Rattle.json_tree.specs.Tables.{row};
+
+use crate::fault::{Cause, ReadError};
+use crate::tree::at_key;
+use serde_json::Value;
+use std::alloc::Global;
+
+pub fn text(alloc: Global, tree: &Value) -> Result<&str, ReadError>
+    ensures { GivesAs (λ t. t.now) result (text (view tree.now)) }
+{
+    match tree.as_str() {
+        Some(text) => Ok(text),
+        None => Err(ReadError::here(alloc, Cause::WrongKind)),
+    }
+}
+
+/// The one text that may stand there.
+#[tactic(auto, unfolding(crate::specs::Reading::stated))]
+pub fn stated(alloc: Global, tree: &Value, word: &str) -> Result<(), ReadError>
+    ensures { Gives result (stated word.now (view tree.now)) }
+{
+    if text(alloc, tree)? == word {
+        Ok(())
+    } else {
+        Err(ReadError::here(alloc, Cause::UnknownWord))
+    }
+}
+
+fn stated_there(alloc: Global, there: Option<&Value>, word: &str) -> Result<(), ReadError>
+    ensures { Gives result
+        (if_there (option_map (λ value. view value.now) there.entry) (stated word.now)) }
+{
+    match there {
+        Some(value) => stated(alloc, value, word),
+        None => Err(ReadError::here(alloc, Cause::Missing)),
+    }
+}
+
+/// The member at a key that is one text alone.
+#[tactic(auto, unfolding(crate::specs::Reading::field))]
+pub fn stated_field(alloc: Global, tree: &Value, key: &str, word: &str) -> Result<(), ReadError>
+    requires { IsTrue (is_name key.now) }
+    ensures { Gives result (field key.now (stated word.now) (view tree.now)) }
+{
+    at_key(alloc, key, stated_there(alloc, tree.get(key), word))
+}
+
+/// What the first row with this text has.
+pub fn look_up<T: Copy>(table: &[(&str, T)], text: &str) -> Option<T>
+    ensures { result ≡ look_up (map row table.now) text.now }
+{
+    for (word, meaning) in table {
+        if text == *word {
+            return Some(*meaning);
+        }
+    }
+    None
+}
+
+/// A text of a table.
+#[tactic(auto, unfolding(crate::specs::Reading::word_of))]
+pub fn word_of<T: Copy>(alloc: Global, tree: &Value, table: &[(&str, T)]) -> Result<T, ReadError>
+    ensures { Gives result (word_of (map row table.now) (view tree.now)) }
+{
+    match look_up(table, text(alloc, tree)?) {
+        Some(meaning) => Ok(meaning),
+        None => Err(ReadError::here(alloc, Cause::UnknownWord)),
+    }
+}
