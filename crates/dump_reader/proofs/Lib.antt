@@ -1,0 +1,4 @@
+pub mod Readings
+pub mod NewNames
+pub mod Tables
+pub mod Fits
