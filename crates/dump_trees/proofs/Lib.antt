@@ -1,0 +1,10 @@
+pub mod Numbers
+pub mod Mnemonics
+pub mod Constants
+pub mod Lists
+pub mod Instructions
+pub mod Tests
+pub mod Names
+pub mod Units
+pub mod Depths
+pub mod Files
