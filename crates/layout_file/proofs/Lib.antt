@@ -1,0 +1,4 @@
+pub mod Search
+pub mod PinSets
+pub mod PinItems
+pub mod MeetingLemmas

@@ -1,0 +1,9 @@
+pub mod Layouts
+pub mod Pins
+pub mod PinEntries
+pub mod RangeTests
+pub mod Meetings
+pub mod LayoutTree
+pub mod LayoutFile
+pub mod Seen
+pub mod Kept

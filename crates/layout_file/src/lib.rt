@@ -1,0 +1,16 @@
+//! Layouts: what a program's address space has, from a JSON text.
+#![tactic(auto)]
+
+pub mod error;
+pub mod kind;
+pub mod layout;
+pub mod limits;
+mod meeting;
+mod pins;
+mod read;
+mod span;
+
+pub use read::read_layout;
+
+#[cfg(test)]
+mod tests;
