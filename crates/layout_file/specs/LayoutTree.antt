@@ -12,6 +12,7 @@ use Rattle.json_tree.specs.Addresses.{address}
 use Rattle.json_tree.specs.Profile.{header}
 use Rattle.layout_file.specs.declared.kind.AreaKind.{AreaKind}
 use Rattle.layout_file.specs.declared.kind.AreaKind.TheVariants.{Code, Fixed, Writable, Sda13, Sda2, Sda0}
+use Rattle.layout_file.specs.declared.limits.TheConstants.{MOST_AREAS, MOST_FOREIGN_RANGES, MOST_PINS}
 use Rattle.layout_file.specs.Layouts.{Extent, extent, Area, Pin, Layout}
 use Rattle.layout_file.specs.Pins.{is_pinned, with_pin}
 use Rattle.layout_file.specs.RangeTests.{range_tests, stack_tests, stop_tests, tested}
@@ -90,7 +91,7 @@ pins_from pins i (d ∷ ds) = do
 unfoldable pub pins : Data → Result (List Pin) Fault
 pins d = do
   ds ← items d
-  limited 65536 ds
+  limited MOST_PINS ds
   pins_from [] 0 ds
 
 -- ---- layouts
@@ -103,7 +104,7 @@ layout d = do
   stack ← field (codes "stack") stack d
   r13 ← field (codes "r13") address d
   r2 ← field (codes "r2") address d
-  areas ← field (codes "areas") (list 1024 area) d
-  foreign ← field (codes "foreign") (list 1024 range) d
+  areas ← field (codes "areas") (list MOST_AREAS area) d
+  foreign ← field (codes "foreign") (list MOST_FOREIGN_RANGES range) d
   pins ← field (codes "pins") pins d
   Ok (record { entry = entry; stop = stop; stack = stack; r13 = r13; r2 = r2; areas = areas; foreign = foreign; pins = pins })

@@ -5,6 +5,7 @@ use Rattle.json_tree.specs.declared.fault.Cause.{Cause}
 use Rattle.json_tree.specs.declared.fault.Cause.TheVariants.{RangeOrder, Unaligned, Limit}
 use Rattle.json_tree.specs.declared.fault.Fault.{Fault}
 use Rattle.json_tree.specs.Reading.{fail}
+use Rattle.layout_file.specs.declared.limits.TheConstants.{MOST_STACK_BYTES}
 use Rattle.layout_file.specs.Layouts.{Extent, stop_range}
 
 abbrev pub range_tests : Extent → List (Check Cause)
@@ -14,7 +15,7 @@ range_tests range = check (nat_le 1 range.lo && nat_lt range.lo range.hi && nat_
 abbrev pub stack_tests : Extent → List (Check Cause)
 stack_tests stack = range_tests stack ++ (
     check (nat_le 16 (stack.hi - stack.lo)) RangeOrder ∷
-    check (nat_le (stack.hi - stack.lo) 16777216) (Limit 16777216) ∷
+    check (nat_le (stack.hi - stack.lo) MOST_STACK_BYTES) (Limit MOST_STACK_BYTES) ∷
     check (stack.hi % 16 == 0) Unaligned ∷ [])
 
 abbrev pub stop_tests : ℕ → List (Check Cause)
@@ -38,7 +39,7 @@ pub record IsRange (range : Extent) : Type 0 where
 pub record IsStack (stack : Extent) : Type 0 where
   pub range : IsRange stack
   pub least_size : stack.lo + 16 ≤ stack.hi
-  pub most_size : stack.hi ≤ stack.lo + 16777216
+  pub most_size : stack.hi ≤ stack.lo + MOST_STACK_BYTES
   pub aligned : stack.hi % 16 ≡ 0
 
 pub record IsStop (stop : ℕ) : Type 0 where

@@ -1,7 +1,6 @@
 pub mod ItemLemmas
 pub mod NameLemmas
 pub mod TextLemmas
-pub mod WordText
 pub mod LeftLemmas
 pub mod PlaceLemmas
 pub mod StopLemmas

@@ -1,6 +1,6 @@
 -- What a verdict prints, and its status.
-use Rattle.std.specs.Prelude.{ℕ, ◌-◌, ◌/◌, ◌%◌, ◌^◌, List, [], ◌∷◌, ◌++◌, codes, decimal, map, false}
-use Rattle.std.specs.Fmt.{digit_glyph}
+use Rattle.std.specs.Prelude.{ℕ, ◌-◌, List, ◌++◌, codes, decimal}
+use Rattle.isa_model.specs.Word.{word_digits}
 use Rattle.asm_syntax.specs.declared.rule.Rule.{Rule}
 use Rattle.asm_syntax.specs.Rules.{rule_number, rule_name}
 use Rattle.checker.specs.declared.Thin.{Thin}
@@ -14,10 +14,6 @@ use Rattle.report_cmd.specs.declared.verdict.Refusal.{Refusal}
 use Rattle.report_cmd.specs.declared.verdict.Refusal.TheVariants.{Elf, NotYet}
 use Rattle.report_cmd.specs.declared.verdict.Part.TheVariants as part
 use Rattle.report_cmd.specs.declared.verdict.Owner.{Owner}
-
--- 8 lower-case hexadecimal digits, the highest first
-abbrev pub word_text : ℕ → List ℕ
-word_text n = map (λ k. digit_glyph false (n / 16 ^ k % 16)) (7 ∷ 6 ∷ 5 ∷ 4 ∷ 3 ∷ 2 ∷ 1 ∷ 0 ∷ [])
 
 -- the number and the name of a rule
 abbrev pub rule_text : Rule → List ℕ
@@ -55,15 +51,15 @@ owner_text owner = owner.unit ++ (codes " " ++ owner.function)
 abbrev pub fault_text : Owner → Thin → List ℕ
 fault_text owner t =
     codes "no\nrule " ++ (rule_text t.rule
-    ++ (codes "\nplace " ++ (owner_text owner ++ (codes " " ++ (word_text t.offset
-    ++ (codes "\nitem 0\nwanted " ++ (word_text t.wanted
-    ++ (codes "\nfound " ++ (word_text t.found ++ codes "\n")))))))))
+    ++ (codes "\nplace " ++ (owner_text owner ++ (codes " " ++ (word_digits t.offset
+    ++ (codes "\nitem 0\nwanted " ++ (word_digits t.wanted
+    ++ (codes "\nfound " ++ (word_digits t.found ++ codes "\n")))))))))
 
 abbrev pub report_text : Owner → Span → List ℕ
 report_text owner span =
     codes "yes\nfunctions 1 bytes " ++ (decimal (span.hi - span.lo)
     ++ (codes "\ntables 0 bytes 0\nvariables 0 bytes 0\nexternals 0\npadding 0\nforeign 0\nloaded " ++ (decimal (span.hi - span.lo)
-    ++ (codes "\n" ++ (word_text span.lo ++ (codes " " ++ (word_text span.hi
+    ++ (codes "\n" ++ (word_digits span.lo ++ (codes " " ++ (word_digits span.hi
     ++ (codes " function " ++ (owner_text owner ++ codes "\n")))))))))
 
 abbrev pub text_of : List (List ℕ) → Verdict → List ℕ

@@ -1,7 +1,7 @@
 //! What a verdict prints.
 
 ghost use Rattle.std.specs.Prelude.{◌≡◌, Some, IfOk, codes, map, string_bytes};
-ghost use Rattle.report_cmd.specs.Text.{word_text, owner_text, rule_text, elf_text, refusal_text, fault_text, report_text, text_of};
+ghost use Rattle.report_cmd.specs.Text.{owner_text, rule_text, elf_text, refusal_text, fault_text, report_text, text_of};
 
 use crate::address::Span;
 use crate::verdict::{Owner, Part, Refusal, Verdict};
@@ -11,27 +11,11 @@ use checker::Thin;
 use elf_view::ElfError;
 use std::alloc::{AllocError, Global};
 use std::fmt;
+use word_ops::hexadecimal::Hexadecimal;
 
 /// The commands, those that are not there yet too.
 const USAGE: &str =
     "usage: valex check LAYOUT IMAGE UNIT...\n       valex run LAYOUT IMAGE REPLIES STEPS UNIT...\n       valex show IMAGE ADDRESS COUNT\n       valex make SEED COUNT\n";
-
-/// A word as 8 lower-case hexadecimal digits.
-#[derive(Clone, Copy, Drop)]
-struct Word(u32);
-
-impl fmt::Display for Word {
-    ghost output = { λ w. Some (word_text w.0) };
-
-    fn fmt<W: fmt::Write>(&self, f: &mut fmt::Formatter<W>) -> fmt::Result {
-        let word = self.0;
-        let a = word / 0x100_0000;
-        let b = word / 0x1_0000 % 256;
-        let c = word / 0x100 % 256;
-        let d = word % 256;
-        write!(f, "{a:02x}{b:02x}{c:02x}{d:02x}")
-    }
-}
 
 impl fmt::Display for Owner {
     ghost output = { λ o. Some (owner_text o) };
@@ -92,9 +76,9 @@ fn fault_text(alloc: Global, owner: &Owner, t: &Thin) -> Result<String, AllocErr
     ensures { IfOk result (λ text. string_bytes text ≡ fault_text owner.now t.now) }
 {
     let rule = rule_text(alloc, t.rule)?;
-    let offset = Word(t.offset);
-    let wanted = Word(t.wanted);
-    let found = Word(t.found);
+    let offset = Hexadecimal(t.offset);
+    let wanted = Hexadecimal(t.wanted);
+    let found = Hexadecimal(t.found);
     format!(in alloc;
         "no\nrule {rule}\nplace {owner} {offset}\nitem 0\nwanted {wanted}\nfound {found}\n"
     )
@@ -105,8 +89,8 @@ fn report_text(alloc: Global, owner: &Owner, span: Span) -> Result<String, Alloc
 {
     let bytes = span.hi.saturating_sub(span.lo);
     let loaded = bytes;
-    let lo = Word(span.lo);
-    let hi = Word(span.hi);
+    let lo = Hexadecimal(span.lo);
+    let hi = Hexadecimal(span.hi);
     format!(in alloc;
         "yes\nfunctions 1 bytes {bytes}\ntables 0 bytes 0\nvariables 0 bytes 0\nexternals 0\npadding 0\nforeign 0\nloaded {loaded}\n{lo} {hi} function {owner}\n"
     )
