@@ -1,3 +1,4 @@
+pub mod LabelLemmas
 pub mod ShapeLemmas
 pub mod Rows
 pub mod PlaceRows

@@ -1,6 +1,6 @@
 //! The shapes of functions.
 
-ghost use Rattle.std.specs.Prelude.{◌≡◌, ◌≤◌, length};
+ghost use Rattle.std.specs.Prelude.{◌≡◌, ◌≤◌, length, take, IfOk};
 ghost use Rattle.std.specs.List.{list_any};
 ghost use Rattle.isa_model.specs.Word.{wrapped};
 ghost use Rattle.ordered_tests.specs.Checks.{fault_of, first_fault};
@@ -15,10 +15,12 @@ ghost use Rattle.asm_shapes.specs.Shapes.{
   writes_reserved,
 };
 
+use crate::labels::{Indexed, Labelled, Searched};
 use crate::operands::{frame_fits, instr_in_range};
-use asm_syntax::instr::{Function, Instr, label_place};
+use asm_syntax::instr::{Function, Instr};
 use asm_syntax::reg::Reg;
 use asm_syntax::shape::ShapeError;
+use std::alloc::{AllocError, Global};
 
 fn is_reserved(r: Reg) -> bool
     ensures { result ≡ is_reserved r }
@@ -36,15 +38,24 @@ fn writes_reserved(instr: &Instr) -> bool
     }
 }
 
-fn has_label(code: &[Instr], label: u32) -> bool
-    ensures { result ≡ has_label code.now label }
+fn has_label<C: Labelled>(code: &C, label: u32) -> bool
+    ensures { result ≡ has_label (C.code code.now) label }
 {
-    label_place(code, label).is_some()
+    code.place(label).is_some()
 }
 
-/// A search through the code for each label, since it takes no memory.
-fn labels_stand(code: &[Instr], instr: &Instr) -> bool
-    ensures { result ≡ labels_stand code.now instr.now }
+/// Whether the label stands before the instruction with the number `at`.
+fn has_label_before<C: Labelled>(code: &C, at: usize, label: u32) -> bool
+    ensures { result ≡ has_label (take at (C.code code.now)) label }
+{
+    match code.place(label) {
+        Some(first) => first < at,
+        None => false,
+    }
+}
+
+fn labels_stand<C: Labelled>(code: &C, instr: &Instr) -> bool
+    ensures { result ≡ labels_stand (C.code code.now) instr.now }
 {
     instr
         .labels_named()
@@ -52,11 +63,11 @@ fn labels_stand(code: &[Instr], instr: &Instr) -> bool
         .all(|label| has_label(code, *label))
 }
 
-fn repeats_label(before: &[Instr], instr: &Instr) -> bool
-    ensures { result ≡ repeats_label before.now instr.now }
+fn repeats_label<C: Labelled>(code: &C, at: usize, instr: &Instr) -> bool
+    ensures { result ≡ repeats_label (take at (C.code code.now)) instr.now }
 {
     match instr {
-        Instr::Label(label) => has_label(before, *label),
+        Instr::Label(label) => has_label_before(code, at, *label),
         _ => false,
     }
 }
@@ -67,9 +78,8 @@ fn number_of(at: usize) -> u32
     (at % 0x1_0000_0000) as u32
 }
 
-fn check_instr(code: &[Instr], at: usize, instr: &Instr) -> Result<(), ShapeError>
-    requires { at ≤ length code.now }
-    ensures { fault_of result ≡ first_fault (instr_tests code.now at instr.now) }
+fn check_instr<C: Labelled>(code: &C, at: usize, instr: &Instr) -> Result<(), ShapeError>
+    ensures { fault_of result ≡ first_fault (instr_tests (C.code code.now) at instr.now) }
 {
     let number = number_of(at);
     if writes_reserved(instr) {
@@ -78,7 +88,7 @@ fn check_instr(code: &[Instr], at: usize, instr: &Instr) -> Result<(), ShapeErro
     if !labels_stand(code, instr) {
         return Err(ShapeError::NoLabel(number));
     }
-    if repeats_label(&code[..at], instr) {
+    if repeats_label(code, at, instr) {
         return Err(ShapeError::TwoLabels(number));
     }
     if !frame_fits(instr) {
@@ -90,10 +100,11 @@ fn check_instr(code: &[Instr], at: usize, instr: &Instr) -> Result<(), ShapeErro
     Ok(())
 }
 
-fn check_code(code: &[Instr]) -> Result<(), ShapeError>
-    ensures { fault_of result ≡ first_fault (code_tests code.now) }
+fn check_code<C: Labelled>(code: &C) -> Result<(), ShapeError>
+    ensures { fault_of result ≡ first_fault (code_tests (C.code code.now)) }
 {
-    for (at, instr) in code.iter().enumerate() {
+    let instrs = code.code();
+    for (at, instr) in instrs.iter().enumerate() {
         check_instr(code, at, instr)?;
     }
     Ok(())
@@ -105,14 +116,28 @@ fn any_has_words(code: &[Instr]) -> bool
     code.iter().any(|instr| instr.has_words())
 }
 
-/// The first fault of a function: that it has no words, else the fault of its first instruction that has one, and there the one with
-/// the least number. Each label is searched for through the code, so the time grows with the square of the function's size.
-pub fn valid_function(f: &Function) -> Result<(), ShapeError>
-    ensures { fault_of result ≡ first_fault (function_tests f.now.code) }
+fn check_function<C: Labelled>(code: &C) -> Result<(), ShapeError>
+    ensures { fault_of result ≡ first_fault (function_tests (C.code code.now)) }
 {
-    let code = f.code.items();
-    if !any_has_words(code) {
+    if !any_has_words(code.code()) {
         return Err(ShapeError::Empty(0));
     }
     check_code(code)
+}
+
+/// The first fault of a function: that it has no words, else the fault of its first instruction that has one, and there the one with
+/// the least number. Since it takes no memory, it searches the code for each label: the time grows with the square of the code's length.
+pub fn valid_function(f: &Function) -> Result<(), ShapeError>
+    ensures { fault_of result ≡ first_fault (function_tests f.now.code) }
+{
+    check_function(&Searched::new(f.code.items()))
+}
+
+/// The fault that `valid_function` answers, if there is one. It looks labels up in an ordered map, so the time is near linear in the
+/// instructions and the labels that they name.
+pub fn function_fault(alloc: Global, f: &Function) -> Result<Option<ShapeError>, AllocError>
+    ensures { IfOk result (λ fault. fault ≡ first_fault (function_tests f.now.code)) }
+{
+    let code = Indexed::new(alloc, f.code.items())?;
+    Ok(check_function(&code).err())
 }

@@ -2,13 +2,14 @@
 #![tactic(auto)]
 
 mod function;
+mod labels;
 mod operands;
 mod signature;
 #[cfg(test)]
 mod tests;
 mod unit;
 
-pub use function::valid_function;
+pub use function::{function_fault, valid_function};
 pub use operands::{frame_fits, instr_in_range, plain_in_range};
 pub use signature::{first_register, valid_sig};
 pub use unit::unit_fits;

@@ -1,6 +1,6 @@
-use crate::{first_register, unit_fits, valid_function, valid_sig};
+use crate::{first_register, function_fault, unit_fits, valid_function, valid_sig};
 use asm_syntax::instr::{Function, Instr, Jump, Plain};
-use asm_syntax::limits::MOST_EXTERNALS;
+use asm_syntax::limits::{MOST_EXTERNALS, MOST_INSTRUCTIONS};
 use asm_syntax::listed::Listed;
 use asm_syntax::name::Name;
 use asm_syntax::operations::MoveOp;
@@ -54,7 +54,34 @@ fn each_fault_of_a_function(rt: HostRuntime) -> Result<(), Fail> {
     for (code, want) in table {
         let f = function(alloc, code)?;
         assert_eq!(rt; valid_function(&f), want);
+        assert_eq!(rt; function_fault(alloc, &f)?, want.err());
     }
+    Ok(())
+}
+
+/// So many labels, each named once in each of so many tables.
+fn tables_of_labels(alloc: Global, labels: u32, tables: u32) -> Result<Function, Fail> {
+    let r3 = Reg::new(3).ok_or("r3")?;
+    let mut code = Vec::new(alloc);
+    for label in 0..labels {
+        code.push(Instr::Label(label))?;
+    }
+    for _ in 0..tables {
+        let mut named = Vec::new(alloc);
+        for label in 0..labels {
+            named.push(label)?;
+        }
+        code.push(Instr::Btbl(r3, Listed::from_vec(named)))?;
+    }
+    function(alloc, code)
+}
+
+/// A search through the code for each of these four million labels would not end in a test's time.
+#[test]
+fn labels_of_a_long_function(rt: HostRuntime) -> Result<(), Fail> {
+    let alloc = rt.alloc();
+    let f = tables_of_labels(alloc, MOST_INSTRUCTIONS - 64, 64)?;
+    assert_eq!(rt; function_fault(alloc, &f)?, None);
     Ok(())
 }
 

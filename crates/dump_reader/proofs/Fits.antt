@@ -1,5 +1,5 @@
 -- Units that are read fit.
-use Rattle.std.proofs.Common.{◌≡◌, ℕ, Bool, true, false, ◌&&◌, List, [], ◌++◌, map, Option, Some, None, Result, Ok, Err, refl, sym, ap, ◌∙◌}
+use Rattle.std.proofs.Common.{◌≡◌, ℕ, Bool, true, false, List, [], ◌++◌, map, Option, Some, None, Ok, refl, ◌∙◌}
 use Rattle.std.specs.Prelude.{codes, is_none, is_some, nat_le, length, if◌then◌else◌}
 use Rattle.std.specs.List.{list_all}
 use Rattle.std.specs.Option.{option_map_or}
@@ -9,7 +9,6 @@ use Rattle.serde_json.specs.Find.{as_null}
 use Rattle.asm_syntax.specs.declared.instr.Function.{Function}
 use Rattle.asm_syntax.specs.declared.unit.Init.{Init}
 use Rattle.asm_syntax.specs.declared.unit.Variable.{Variable}
-use Rattle.asm_syntax.specs.declared.unit.Width.{Width}
 use Rattle.asm_syntax.specs.declared.unit.Sig.{Sig}
 use Rattle.asm_syntax.specs.declared.unit.External.{External}
 use Rattle.asm_syntax.specs.declared.shape.ShapeError.{ShapeError}
@@ -20,15 +19,14 @@ use Rattle.asm_shapes.specs.Shapes.{function_tests, is_valid_code}
 use Rattle.asm_shapes.specs.Signatures.{sig_tests, is_valid_sig}
 use Rattle.asm_shapes.specs.Units.{function_name, variable_name, external_name, are_distinct, table_fits, function_fits, is_alignment, variable_fits, sig_fits, external_fits, unit_fits}
 use Rattle.json_tree.specs.declared.fault.Cause.TheVariants.{OutOfRange, Limit}
-use Rattle.json_tree.specs.declared.fault.Fault.{Fault}
-use Rattle.json_tree.specs.Reading.{◌>>=◌, ◌>>◌, fail, field, object, boolean, name, or_null, word_of}
+use Rattle.json_tree.specs.Reading.{◌>>=◌, fail, field, object, boolean, name, or_null, word_of}
 use Rattle.json_tree.specs.Arrays.{list}
 use Rattle.json_tree.specs.Numbers.{natural}
 use Rattle.json_tree.specs.NewNames.{is_taken, new_name, named_list, with_names}
 use Rattle.json_tree.specs.Profile.{header}
 use Rattle.dump_reader.specs.declared.external.TheConstants.{MOST_INDEXED}
 use Rattle.dump_reader.specs.Instructions.{instr}
-use Rattle.dump_reader.specs.UnitTree.{function, well_shaped, init, contents, alignment, variable, widths, results, arguments, well_passed, signature, external, taken_by_functions, taken_by_both, unit, UnitTree, UnitsFit}
+use Rattle.dump_reader.specs.UnitTree.{function, well_shaped, init, contents, alignment, variable, widths, results, arguments, well_passed, signature, external, taken_by_functions, taken_by_both, unit, UnitsFit}
 use Rattle.dump_reader.proofs.Readings.{Has, any, of_ok, after, after_any, behind, behind_passed, weaken, at_field, Limited, list_has, fresh, IsNew, AreNew, named_list_has, new_name_has}
 use Rattle.dump_reader.proofs.NewNames.{fresh_append, distinct}
 use Rattle.dump_reader.proofs.Tables.{instr_fits}

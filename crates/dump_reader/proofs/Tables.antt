@@ -1,5 +1,5 @@
 -- The labels of tables that are read: a table has 1 to so many.
-use Rattle.std.proofs.Common.{◌≡◌, ℕ, Bool, true, false, ◌&&◌, List, [], length, Result, Ok, Err, refl, sym, ap, ◌∙◌, arith}
+use Rattle.std.proofs.Common.{◌≡◌, ℕ, Bool, true, false, ◌&&◌, List, length, Result, Ok, Err, refl, arith}
 use Rattle.std.specs.Prelude.{nat_le, ◌==◌, if◌then◌else◌}
 use Rattle.std.proofs.lemmas.Bool.Decides.{nat_tests}
 use Rattle.serde_json.specs.Data.{Data}
@@ -20,8 +20,6 @@ use Rattle.asm_syntax.specs.declared.operations.CrBitOp.{CrBitOp}
 use Rattle.asm_syntax.specs.declared.operations.MoveOp.{MoveOp}
 use Rattle.asm_syntax.specs.declared.operations.BarOp.{BarOp}
 use Rattle.asm_syntax.specs.declared.instr.Instr.{Instr}
-use Rattle.asm_syntax.specs.declared.instr.Instr.TheVariants as Instrs
-use Rattle.asm_syntax.specs.declared.instr.Jump.TheVariants as Jumps
 use Rattle.asm_syntax.specs.declared.limits.TheConstants.{MOST_LABELS}
 use Rattle.asm_shapes.specs.Units.{table_fits}
 use Rattle.mnemonics.specs.declared.form.Form.{Form}
@@ -33,8 +31,8 @@ use Rattle.mnemonics.specs.declared.form.PseudoForm.TheVariants as PseudoForms
 use Rattle.mnemonics.specs.Mnemonics.{mnemonics}
 use Rattle.json_tree.specs.declared.fault.Cause.TheVariants.{OutOfRange}
 use Rattle.json_tree.specs.declared.fault.Fault.{Fault}
-use Rattle.json_tree.specs.Reading.{◌>>=◌, ◌>>◌, fail, name}
-use Rattle.json_tree.specs.Arrays.{items, limited, each_from, list, counted, nth, chosen}
+use Rattle.json_tree.specs.Reading.{◌>>=◌, fail}
+use Rattle.json_tree.specs.Arrays.{items, limited, list, counted, nth, chosen}
 use Rattle.json_tree.specs.Numbers.{unsigned16, unsigned32, word}
 use Rattle.dump_reader.specs.Words.{allowed_word}
 use Rattle.dump_reader.specs.Operands.{register, bit_number, cr_field, compared, labels, alu_constant, displacement}

@@ -1,7 +1,6 @@
 -- Instructions: the mnemonic, then its operands in their order.
-use Rattle.std.specs.Prelude.{ℕ, ℤ, List, Result, Ok}
+use Rattle.std.specs.Prelude.{ℕ, List, Result, Ok}
 use Rattle.serde_json.specs.Data.{Data}
-use Rattle.asm_syntax.specs.declared.instr.Plain.{Plain}
 use Rattle.asm_syntax.specs.declared.instr.Plain.TheVariants as Plains
 use Rattle.asm_syntax.specs.declared.instr.Jump.{Jump}
 use Rattle.asm_syntax.specs.declared.instr.Jump.TheVariants as Jumps

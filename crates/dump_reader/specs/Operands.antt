@@ -1,5 +1,5 @@
 -- The operands of instructions.
-use Rattle.std.specs.Prelude.{ℕ, ◌^◌, ℤ, pos, negsuc, Bool, List, [], ◌∷◌, length, is_some, Result, Ok, codes, ◌==◌, if◌then◌else◌}
+use Rattle.std.specs.Prelude.{ℕ, ℤ, pos, negsuc, Bool, List, [], ◌∷◌, length, is_some, Result, Ok, codes, ◌==◌, if◌then◌else◌}
 use Rattle.serde_json.specs.Data.{Data}
 use Rattle.serde_json.specs.Find.{as_array}
 use Rattle.asm_syntax.specs.declared.instr.Const.{Const}

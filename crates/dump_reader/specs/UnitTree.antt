@@ -5,7 +5,6 @@ use Rattle.serde_json.specs.Data.{Data}
 use Rattle.hex.specs.Hex.{decode_of}
 use Rattle.hex.specs.declared.error.FromHexError.{FromHexError}
 use Rattle.asm_syntax.specs.declared.path.Step.TheVariants.{Key, Index}
-use Rattle.asm_syntax.specs.declared.instr.Instr.{Instr}
 use Rattle.asm_syntax.specs.declared.instr.Function.{Function}
 use Rattle.asm_syntax.specs.declared.unit.Init.{Init}
 use Rattle.asm_syntax.specs.declared.unit.Init.TheVariants as Inits

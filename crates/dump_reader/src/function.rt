@@ -12,7 +12,7 @@ ghost use Rattle.json_tree.specs.declared.fault.Cause.TheVariants.{Shape};
 ghost use Rattle.dump_reader.specs.UnitTree.{function, well_shaped};
 
 use crate::profile::Dump;
-use asm_shapes::valid_function;
+use asm_shapes::function_fault;
 use asm_syntax::instr::{Function, Instr};
 use asm_syntax::limits::MOST_INSTRUCTIONS;
 use asm_syntax::shape::ShapeError;
@@ -46,10 +46,10 @@ fn in_code(alloc: Global, error: ShapeError) -> Result<(), ReadError>
 fn well_shaped(alloc: Global, function: &Function) -> Result<(), ReadError>
     ensures { Gives result (well_shaped (first_fault (function_tests function.now.code))) }
 {
-    match valid_function(function) {
-        Ok(()) => Ok(()),
-        Err(ShapeError::Empty(at)) => misshapen(alloc, ShapeError::Empty(at)),
-        Err(error) => in_code(alloc, error),
+    match function_fault(alloc, function)? {
+        None => Ok(()),
+        Some(ShapeError::Empty(at)) => misshapen(alloc, ShapeError::Empty(at)),
+        Some(error) => in_code(alloc, error),
     }
 }
 

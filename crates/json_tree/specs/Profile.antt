@@ -1,5 +1,5 @@
 -- What all profiles have: the tree of a text, and the head that names the profile and its version.
-use Rattle.std.specs.Prelude.{ℕ, ◌<◌, List, codes, ℤ, pos, negsuc, Option, None, Result, Ok, nat_le, ◌&&◌, if◌then◌else◌}
+use Rattle.std.specs.Prelude.{ℕ, List, codes, ℤ, pos, negsuc, Option, None, Result, Ok, nat_le, ◌&&◌, if◌then◌else◌}
 use Rattle.std.specs.Str.{is_utf8}
 use Rattle.serde_json.specs.Data.{Data}
 use Rattle.serde_json.specs.Read.{read}

@@ -5,5 +5,6 @@ use Rattle.asm_shapes.specs.Shapes.{code_tests, place_tests}
 use Rattle.asm_shapes.proofs.function.check_code.Given as goal
 
 abbrev pub invariant-loop-at : goal.invariant-loop-at
-invariant-loop-at l =
-    first_fault (each_check (place_tests l.code) (enumerate_from l.at (drop l.at l.code))) ≡ first_fault (code_tests l.code)
+invariant-loop-at g l =
+    first_fault (each_check (place_tests (g.C.Labelled.code l.code)) (enumerate_from l.at (drop l.at l.instrs)))
+    ≡ first_fault (code_tests (g.C.Labelled.code l.code))

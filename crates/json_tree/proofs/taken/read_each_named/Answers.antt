@@ -1,4 +1,4 @@
-use Rattle.std.proofs.Common.{rules, ◌≡◌, List, [], ◌∷◌, ◌++◌, length, map, Vec, Global, refl}
+use Rattle.std.proofs.Common.{rules, ◌≡◌, map, Vec, Global}
 use Rattle.std.proofs.lemmas.Result.{err_from_is_err_and, IfOk-at_ok}
 use Rattle.serde_json.specs.View.{view}
 use Rattle.json_tree.specs.Arrays.{each_from}

@@ -1,7 +1,5 @@
-use Rattle.std.proofs.Common.{◌≡◌, map, ap, ◌∙◌}
-use Rattle.std.specs.Prelude.{ℕ, List, ◌||◌, not, string_bytes}
-use Rattle.std.specs.Str.{bytes_eq}
-use Rattle.json_tree.specs.NewNames.{is_taken, with_name}
+use Rattle.std.proofs.Common.{map, ap, ◌∙◌}
+use Rattle.std.specs.Prelude.{not, string_bytes}
 use Rattle.json_tree.proofs.NameSets.{any_text, map_insert, taken_with}
 use Rattle.json_tree.proofs.taken.Taken.take.Goals as goal
 
