@@ -8,6 +8,7 @@ use asm_syntax::shape::ShapeError;
 use json_tree::fault::{Cause, Fault};
 
 /// Why no unit and no replies were read. A path leads to the first fault in the order of the profile.
+/// Numbered from 1 in the order of the variants.
 #[derive(Debug, Drop)]
 pub enum DumpError {
     /// The bytes are no UTF-8, or no JSON text that `serde_json` reads.

@@ -45,6 +45,20 @@ fn answer(alloc: Global, text: &[u8]) -> Result<String, Fail> {
     }
 }
 
+fn answer_of_replies(alloc: Global, text: &[u8]) -> Result<String, Fail> {
+    match &read_replies(alloc, text) {
+        Ok(_) => Ok(String::from_str(alloc, "replies")?),
+        Err(error) => shown(alloc, error),
+    }
+}
+
+fn answer_to_replies(alloc: Global, replies: &str) -> Result<String, Fail> {
+    let text = format!(in alloc;
+        "{{\"valex\":\"replies\",\"version\":1,\"replies\":[{replies}]}}"
+    )?;
+    answer_of_replies(alloc, text.as_bytes())
+}
+
 fn answer_to_parts(
     alloc: Global,
     functions: &str,
@@ -359,6 +373,8 @@ fn limits(rt: HostRuntime) -> Result<(), Fail> {
             answer_to_init(alloc, many)?,
             "limit /variables/0/init 65536",
         ),
+        (answer_to_replies(alloc, many)?, "limit /replies 65536"),
+        (answer_to_replies(alloc, most)?, "replies"),
     ];
     for (got, want) in &table {
         assert_eq!(rt; got.as_str(), *want);
@@ -469,6 +485,7 @@ fn replies(rt: HostRuntime) -> Result<(), Fail> {
     let table = [
         ("{", "not-json"),
         ("{\"valex\":\"unit\"}", "unknown-word /valex"),
+        ("{\"valex\":\"replies\",\"version\":2}", "version /version"),
         ("{\"valex\":\"replies\",\"version\":1}", "missing /replies"),
         (
             "{\"valex\":\"replies\",\"version\":1,\"replies\":[[1]]}",
@@ -484,10 +501,8 @@ fn replies(rt: HostRuntime) -> Result<(), Fail> {
         ),
     ];
     for (text, want) in table {
-        match &read_replies(alloc, text.as_bytes()) {
-            Ok(_) => assert!(rt; false, "{text}"),
-            Err(error) => assert_eq!(rt; shown(alloc, error)?.as_str(), want),
-        }
+        let got = answer_of_replies(alloc, text.as_bytes())?;
+        assert_eq!(rt; got.as_str(), want, "{text}");
     }
     Ok(())
 }

@@ -2,6 +2,7 @@
 use thiserror::Error;
 
 /// The first test of an image that fails. The first number is an offset in the file; `Limit` has the limit too.
+/// Numbered from 1 in the order of the variants.
 #[derive(Clone, Copy, Debug, PartialEq, Eq, Error)]
 pub enum ElfError {
     #[error("the file ends before the end of what is read at {0}")]

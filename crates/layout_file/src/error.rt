@@ -3,6 +3,7 @@
 use asm_syntax::path::Path;
 
 /// The first error of a text that is no layout, in the order in which layouts are read.
+/// Numbered from 1 in the order of the variants.
 #[derive(Debug, Drop)]
 pub enum LayoutError {
     NotJson,
