@@ -1,11 +1,8 @@
 //! Where the labels of a code stand.
 
-ghost use Rattle.std.specs.Prelude.{◌≡◌, ℕ, List, [], take, drop, IfOk};
-ghost use Rattle.std.specs.List.{position_from};
-ghost use Rattle.std.specs.Ordering.{nat_cmp};
-ghost use Rattle.std.specs.BTreeMap.{get};
-ghost use Rattle.asm_syntax.specs.declared.instr.Instr.{Instr as AnInstr};
-ghost use Rattle.asm_syntax.specs.Instructions.{is_label, label_place};
+ghost use Rattle.std.specs.Prelude.{◌≡◌, List, IfOk};
+ghost use Rattle.asm_syntax.specs.declared.instr.Instr.{Instr};
+ghost use Rattle.asm_syntax.specs.Instructions.{label_place};
 ghost use Rattle.asm_shapes.specs.Labels.{Places};
 
 use asm_syntax::instr::{Instr, label_place};
@@ -15,7 +12,7 @@ use std::marker::Model;
 
 /// The code of a function, which tells where its labels stand.
 pub trait Labelled {
-    ghost code: { Self → List AnInstr };
+    ghost code: { Self → List Instr };
 
     fn code(&self) -> &[Instr]
         ensures { result.now ≡ code self.now };
@@ -60,10 +57,10 @@ pub struct Indexed<'a> {
 
 impl<'a> Model for Indexed<'a> {
     ghost use Rattle.std.specs.Prelude.{List};
-    ghost use Rattle.asm_syntax.specs.declared.instr.Instr.{Instr as AnInstr};
+    ghost use Rattle.asm_syntax.specs.declared.instr.Instr.{Instr};
     ghost use Rattle.asm_shapes.specs.Labels.{Places};
 
-    ghost Value = { List AnInstr };
+    ghost Value = { List Instr };
 
     ghost view = { λ indexed. indexed.code.now };
 
