@@ -1,4 +1,4 @@
--- Units that are read fit.
+-- Units that are read fit, and a tree is no unit for causes of units alone.
 use Rattle.std.proofs.Common.{◌≡◌, ℕ, Bool, true, false, List, [], ◌++◌, map, Option, Some, None, Ok, refl, ◌∙◌}
 use Rattle.std.specs.Prelude.{codes, is_none, is_some, nat_le, length, if◌then◌else◌}
 use Rattle.std.specs.List.{list_all}
@@ -27,7 +27,11 @@ use Rattle.json_tree.specs.Profile.{header}
 use Rattle.dump_reader.specs.declared.external.TheConstants.{MOST_INDEXED}
 use Rattle.dump_reader.specs.Instructions.{instr}
 use Rattle.dump_reader.specs.UnitTree.{function, well_shaped, init, contents, alignment, variable, widths, results, arguments, well_passed, signature, external, taken_by_functions, taken_by_both, unit, UnitsFit}
-use Rattle.dump_reader.proofs.Readings.{Has, any, of_ok, after, after_any, behind, behind_passed, weaken, at_field, Limited, list_has, fresh, IsNew, AreNew, named_list_has, new_name_has}
+use Rattle.json_tree.proofs.Causes as shares
+use Rattle.dump_reader.specs.Causes.{UnitCauses}
+use Rattle.dump_reader.proofs.OperandCauses.{shared}
+use Rattle.dump_reader.proofs.InitCauses.{of_init}
+use Rattle.dump_reader.proofs.Readings.{Has, any, causes, of_ok, after, after_any, behind, behind_passed, weaken, at_field, Limited, list_has, fresh, IsNew, AreNew, named_list_has, new_name_has}
 use Rattle.dump_reader.proofs.NewNames.{fresh_append, distinct}
 use Rattle.dump_reader.proofs.Tables.{instr_fits}
 
@@ -35,13 +39,13 @@ use Rattle.dump_reader.proofs.Tables.{instr_fits}
 
 shape_passed : (o : Option ShapeError) → Has (λ _. is_none o ≡ true) (well_shaped o)
 shape_passed None = refl
-shape_passed (Some (WritesReserved i)) = tt
-shape_passed (Some (NoLabel i)) = tt
-shape_passed (Some (TwoLabels i)) = tt
-shape_passed (Some (BadFrame i)) = tt
-shape_passed (Some (Empty i)) = tt
-shape_passed (Some (BadRange i)) = tt
-shape_passed (Some (TooManyArgs i)) = tt
+shape_passed (Some (WritesReserved i)) = refl
+shape_passed (Some (NoLabel i)) = refl
+shape_passed (Some (TwoLabels i)) = refl
+shape_passed (Some (BadFrame i)) = refl
+shape_passed (Some (Empty i)) = refl
+shape_passed (Some (BadRange i)) = refl
+shape_passed (Some (TooManyArgs i)) = refl
 
 name_is_new : (taken : List (List ℕ)) (d : Data) → Has (λ n. is_taken taken n ≡ false) (field (codes "name") (new_name taken) d)
 name_is_new taken d = at_field (λ n. is_taken taken n ≡ false) (codes "name") (new_name taken) d (new_name_has taken)
@@ -50,9 +54,9 @@ function_has : (taken : List (List ℕ)) (d : Data) → Has (IsNew function_fits
 unfolding function
 function_has taken d =
     let P : Function → Type 0 = IsNew function_fits function_name taken in
-    behind P (object d) _ (
+    behind P (object d) _ (shares.of_object _ shared d) (
     after (λ n. is_taken taken n ≡ false) P (field (codes "name") (new_name taken) d) _ (name_is_new taken d) λ n new.
-    after_any P (field (codes "static") boolean d) _ λ s.
+    after_any P (field (codes "static") boolean d) _ (shares.at_field _ shared (codes "static") boolean d (shares.of_boolean _ shared)) λ s.
     after (Limited MOST_INSTRUCTIONS (λ c. list_all table_fits c ≡ true)) P (field (codes "code") (list MOST_INSTRUCTIONS instr) d) _ (at_field _ (codes "code") (list MOST_INSTRUCTIONS instr) d (list_has table_fits MOST_INSTRUCTIONS instr instr_fits)) λ c q.
     behind_passed (λ _. is_valid_code c ≡ true) P (well_shaped (first_fault (function_tests c))) _ (shape_passed (first_fault (function_tests c))) λ _ valid.
     (rw (q.1, q.0, valid) refl, new))
@@ -61,10 +65,10 @@ function_has taken d =
 
 alignment_has : (d : Data) → Has (λ n. is_alignment n ≡ true) (alignment d)
 unfolding alignment
-alignment_has d = after_any _ (natural 16 d) _ λ n. at n (is_alignment n) refl where
+alignment_has d = after_any _ (natural 16 d) _ (shares.of_natural _ shared 16 d) λ n. at n (is_alignment n) refl where
   at : (n : ℕ) (b : Bool) → is_alignment n ≡ b → Has (λ n. is_alignment n ≡ true) (if b then Ok n else fail OutOfRange)
   at n true is = is
-  at n false is = tt
+  at n false is = refl
 
 abbrev Contained : List Init → Type 0
 Contained is = (nat_le (length is) MOST_INIT_ITEMS ≡ true) × (is_some (limited_size is) ≡ true)
@@ -72,21 +76,21 @@ Contained is = (nat_le (length is) MOST_INIT_ITEMS ≡ true) × (is_some (limite
 contents_has : (d : Data) → Has Contained (contents d)
 unfolding contents
 contents_has d =
-    after (Limited MOST_INIT_ITEMS (λ is. list_all (λ _. true) is ≡ true)) Contained (list MOST_INIT_ITEMS init d) _ (list_has (λ _. true) MOST_INIT_ITEMS init (λ e. weaken _ _ (λ _ _. refl) (init e) (any (init e))) d) λ is q.
+    after (Limited MOST_INIT_ITEMS (λ is. list_all (λ _. true) is ≡ true)) Contained (list MOST_INIT_ITEMS init d) _ (list_has (λ _. true) MOST_INIT_ITEMS init (λ e. weaken _ _ (λ _ _. refl) (init e) (any (init e) (of_init e))) d) λ is q.
     at is q.1 (is_some (limited_size is)) refl
   where
     at : (is : List Init) → nat_le (length is) MOST_INIT_ITEMS ≡ true → (b : Bool) → is_some (limited_size is) ≡ b → Has Contained (if b then Ok is else fail (Limit MOST_VARIABLE_BYTES))
     at is le true fits = (le, fits)
-    at is le false fits = tt
+    at is le false fits = refl
 
 variable_has : (taken : List (List ℕ)) (d : Data) → Has (IsNew variable_fits variable_name taken) (variable taken d)
 unfolding variable
 variable_has taken d =
     let P : Variable → Type 0 = IsNew variable_fits variable_name taken in
-    behind P (object d) _ (
+    behind P (object d) _ (shares.of_object _ shared d) (
     after (λ n. is_taken taken n ≡ false) P (field (codes "name") (new_name taken) d) _ (name_is_new taken d) λ n new.
-    after_any P (field (codes "static") boolean d) _ λ s.
-    after_any P (field (codes "writable") boolean d) _ λ w.
+    after_any P (field (codes "static") boolean d) _ (shares.at_field _ shared (codes "static") boolean d (shares.of_boolean _ shared)) λ s.
+    after_any P (field (codes "writable") boolean d) _ (shares.at_field _ shared (codes "writable") boolean d (shares.of_boolean _ shared)) λ w.
     after (λ a. is_alignment a ≡ true) P (field (codes "align") alignment d) _ (at_field _ (codes "align") alignment d alignment_has) λ a aligned.
     after Contained P (field (codes "init") contents d) _ (at_field _ (codes "init") contents d contents_has) λ is q.
     (rw (aligned, q.0, q.1) refl, new))
@@ -95,21 +99,21 @@ variable_has taken d =
 
 passed : (o : Option ShapeError) → Has (λ _. is_none o ≡ true) (well_passed o)
 passed None = refl
-passed (Some e) = tt
+passed (Some e) = refl
 
 arguments_has : (d : Data) → Has (λ ws. is_valid_sig ws ≡ true) (arguments d)
 unfolding arguments
 arguments_has d =
-    after_any (λ ws. is_valid_sig ws ≡ true) (list MOST_INDEXED (word_of widths) d) _ λ ws.
+    after_any (λ ws. is_valid_sig ws ≡ true) (list MOST_INDEXED (word_of widths) d) _ (shares.of_list _ shared MOST_INDEXED (word_of widths) d (shares.of_word _ shared widths)) λ ws.
     behind_passed (λ _. is_valid_sig ws ≡ true) (λ ws. is_valid_sig ws ≡ true) (well_passed (first_fault (sig_tests ws))) _ (passed (first_fault (sig_tests ws))) λ _ valid. valid
 
 signature_has : (d : Data) → Has (λ sig. sig_fits sig ≡ true) (signature d)
 unfolding signature
 signature_has d =
     let P : Sig → Type 0 = λ sig. sig_fits sig ≡ true in
-    behind P (object d) _ (
+    behind P (object d) _ (shares.of_object _ shared d) (
     after (λ ws. is_valid_sig ws ≡ true) P (field (codes "args") arguments d) _ (at_field _ (codes "args") arguments d arguments_has) λ ws valid.
-    after_any P (field (codes "result") (word_of results) d) _ λ r. valid)
+    after_any P (field (codes "result") (word_of results) d) _ (shares.at_field _ shared (codes "result") (word_of results) d (shares.of_word _ shared results)) λ r. valid)
 
 abbrev SigFits : Option Sig → Type 0
 SigFits o = option_map_or sig_fits o true ≡ true
@@ -125,7 +129,7 @@ external_has : (taken : List (List ℕ)) (d : Data) → Has (IsNew external_fits
 unfolding external
 external_has taken d =
     let P : External → Type 0 = IsNew external_fits external_name taken in
-    behind P (object d) _ (
+    behind P (object d) _ (shares.of_object _ shared d) (
     after (λ n. is_taken taken n ≡ false) P (field (codes "name") (new_name taken) d) _ (name_is_new taken d) λ n new.
     after SigFits P (field (codes "sig") (or_null signature) d) _ (at_field SigFits (codes "sig") (or_null signature) d optional_has) λ o fits.
     (fits, new))
@@ -139,8 +143,8 @@ all_distinct xs ys zs x y z =
 unit_has : (d : Data) → Has (λ u. unit_fits u ≡ true) (unit d)
 unfolding unit
 unit_has d =
-    behind _ (header (codes "unit") 1 d) _ (
-    after_any _ (field (codes "unit") name d) _ λ n.
+    behind _ (header (codes "unit") 1 d) _ (shares.of_header _ shared (codes "unit") 1 d) (
+    after_any _ (field (codes "unit") name d) _ (shares.at_field _ shared (codes "unit") name d (shares.of_name _ shared)) λ n.
     after (Limited MOST_FUNCTIONS (AreNew function_fits function_name [])) _ (field (codes "functions") (named_list function_name function [] MOST_FUNCTIONS) d) _ (at_field _ (codes "functions") (named_list function_name function [] MOST_FUNCTIONS) d (named_list_has function_fits function_name function function_has [] MOST_FUNCTIONS)) λ fs f.
     after (Limited MOST_VARIABLES (AreNew variable_fits variable_name (taken_by_functions fs))) _ (field (codes "variables") (named_list variable_name variable (taken_by_functions fs) MOST_VARIABLES) d) _ (at_field _ (codes "variables") (named_list variable_name variable (taken_by_functions fs) MOST_VARIABLES) d (named_list_has variable_fits variable_name variable variable_has (taken_by_functions fs) MOST_VARIABLES)) λ vs v.
     after (Limited MOST_EXTERNALS (AreNew external_fits external_name (taken_by_both fs vs))) _ (field (codes "externals") (named_list external_name external (taken_by_both fs vs) MOST_EXTERNALS) d) _ (at_field _ (codes "externals") (named_list external_name external (taken_by_both fs vs) MOST_EXTERNALS) d (named_list_has external_fits external_name external external_has (taken_by_both fs vs) MOST_EXTERNALS)) λ es e.
@@ -148,3 +152,6 @@ unit_has d =
 
 pub units_fit : UnitsFit
 units_fit d u is = of_ok (λ u. unit_fits u ≡ true) (unit d) u (unit_has d) is
+
+pub unit_causes : UnitCauses
+unit_causes d = causes (λ u. unit_fits u ≡ true) (unit d) (unit_has d)

@@ -2,3 +2,6 @@ pub mod Readings
 pub mod NewNames
 pub mod Tables
 pub mod Fits
+pub mod OperandCauses
+pub mod InitCauses
+pub mod ReplyCauses

@@ -13,7 +13,7 @@ use Rattle.dump_reader.specs.declared.error.DumpError.TheVariants.{NotJson, Miss
 use Rattle.dump_reader.specs.UnitTree.{unit}
 use Rattle.dump_reader.specs.ReplyTree.{replies}
 
--- no dump has ranges or aligned addresses, so their causes do not come
+-- RangeOrder and Unaligned are no causes of dumps (`UnitCauses`, `ReplyCauses`)
 abbrev pub error_at : Cause → List Step → DumpError
 error_at causes.Missing path = Missing path
 error_at causes.WrongKind path = WrongKind path

@@ -4,3 +4,4 @@ pub mod Instructions
 pub mod UnitTree
 pub mod ReplyTree
 pub mod DumpFile
+pub mod Causes

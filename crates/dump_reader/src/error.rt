@@ -32,7 +32,7 @@ pub enum DumpError {
     Memory,
 }
 
-/// The error of a fault. Ranges and aligned addresses stand in layouts alone.
+/// The error of a fault. The faults of ranges and of aligned addresses, which stand in layouts alone, do not come.
 pub fn error_of(fault: Fault) -> DumpError
     ensures { result ≡ error_of fault }
 {

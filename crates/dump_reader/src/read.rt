@@ -5,6 +5,7 @@ ghost use Rattle.asm_shapes.specs.Units.{unit_fits};
 ghost use Rattle.serde_json.specs.View.{view};
 ghost use Rattle.json_tree.specs.Profile.{tree_of};
 ghost use Rattle.dump_reader.specs.DumpFile.{Answers, told, file_of, unit_file, replies_file};
+ghost use Rattle.dump_reader.specs.Causes.{UnitCauses, ReplyCauses};
 
 use crate::error::{DumpError, error_of};
 use crate::profile::Dump;
@@ -37,18 +38,21 @@ fn read_file<P: Reads<T>, T: Drop>(alloc: Global, text: &[u8]) -> Result<T, Dump
 
 /// The unit that a text is, by the profile of units in version 1: an object with the keys `valex`, `version`, `unit`, `functions`,
 /// `variables` and `externals`, which are tested in this order; other keys are passed over.
-#[tactic(auto, using(crate::proofs::Fits::units_fit))]
+#[tactic(auto, using(crate::proofs::Fits::units_fit, crate::proofs::Fits::unit_causes))]
 pub fn read_unit(alloc: Global, text: &[u8]) -> Result<Unit, DumpError>
     ensures read { Answers result (unit_file text.now) }
     ensures fits { IfOk result (λ unit. IsTrue (unit_fits unit)) }
+    ensures causes { UnitCauses }
 {
     read_file::<Dump, Unit>(alloc, text)
 }
 
 /// The replies that a text is, by the profile of replies in version 1: an object with the keys `valex`, `version` and `replies`.
 /// A reply is a word for r3, or an array of two words for r3 and r4.
+#[tactic(auto, using(crate::proofs::ReplyCauses::reply_causes))]
 pub fn read_replies(alloc: Global, text: &[u8]) -> Result<Replies, DumpError>
-    ensures { Answers result (replies_file text.now) }
+    ensures read { Answers result (replies_file text.now) }
+    ensures causes { ReplyCauses }
 {
     read_file::<Dump, Replies>(alloc, text)
 }

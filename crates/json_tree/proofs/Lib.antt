@@ -1,3 +1,4 @@
+pub mod Causes
 pub mod Items
 pub mod NameLemmas
 pub mod Texts

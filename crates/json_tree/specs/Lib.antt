@@ -6,3 +6,4 @@ pub mod Addresses
 pub mod NewNames
 pub mod Profile
 pub mod Answers
+pub mod Causes

@@ -12,7 +12,7 @@ use Rattle.layout_file.specs.Layouts.{Layout, ranges}
 use Rattle.layout_file.specs.Meetings.{first_meeting}
 use Rattle.layout_file.specs.LayoutTree.{layout}
 
--- the error of a cause. A layout has no word that is left out and no function, so the two causes of these never come
+-- the error of a cause. Refused and Shape are no causes of layouts (`LayoutCauses`)
 abbrev pub error_at : Cause → List Step → LayoutError
 error_at causes.Missing path = Missing path
 error_at causes.WrongKind path = WrongKind path

@@ -5,5 +5,6 @@ pub mod RangeTests
 pub mod Meetings
 pub mod LayoutTree
 pub mod LayoutFile
+pub mod Causes
 pub mod Seen
 pub mod Kept

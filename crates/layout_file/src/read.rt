@@ -9,6 +9,7 @@ ghost use Rattle.asm_syntax.specs.Names.{is_name_byte};
 ghost use Rattle.layout_file.specs.Layouts.{ranges};
 ghost use Rattle.layout_file.specs.Meetings.{first_meeting, ArePairwiseApart};
 ghost use Rattle.layout_file.specs.LayoutFile.{Answers, error_of, apart, layout_read, layout_file};
+ghost use Rattle.layout_file.specs.Causes.{LayoutCauses};
 
 use crate::error::LayoutError;
 use crate::kind::AreaKind;
@@ -161,10 +162,11 @@ fn meeting(alloc: Global, layout: &Layout) -> Result<Option<(u32, u32)>, AllocEr
 }
 
 /// The layout that the bytes of a file are.
-#[tactic(auto, unfolding(crate::specs::LayoutFile::layout_file))]
+#[tactic(auto, unfolding(crate::specs::LayoutFile::layout_file), using(crate::proofs::Causes::layout_causes))]
 pub fn read_layout(alloc: Global, text: &[u8]) -> Result<Layout, LayoutError>
     ensures answers { Answers result (layout_file text.now) }
     ensures apart { IfOk result (λ layout. ArePairwiseApart (ranges layout)) }
+    ensures causes { LayoutCauses }
 {
     match tree_of(alloc, text) {
         Ok(tree) => layout_of(alloc, &tree),
