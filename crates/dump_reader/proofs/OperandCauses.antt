@@ -1,29 +1,37 @@
 -- The causes for which the operands of instructions are not read.
-use Rattle.std.proofs.Common.{ℕ, pos, negsuc, List, length, Option, Some, None, Result, refl}
-use Rattle.std.specs.Prelude.{◌==◌}
+use Rattle.std.proofs.Common.{ℕ, pos, negsuc, List, Option, Some, None, Result, refl}
 use Rattle.serde_json.specs.Data.{Data}
+use Rattle.json_tree.specs.declared.fault.Cause.TheVariants.{Missing, WrongKind, OutOfRange, UnknownWord, Version, Shape, Refused, RangeOrder, Unaligned, Limit}
 use Rattle.json_tree.specs.declared.fault.Fault.{Fault}
 use Rattle.json_tree.specs.Causes.{FailsBy}
 use Rattle.json_tree.specs.Reading.{name, word_of}
 use Rattle.json_tree.specs.Arrays.{items, counted, nth, chosen}
 use Rattle.json_tree.specs.Numbers.{unsigned32, signed32}
-use Rattle.json_tree.proofs.Causes.{AllowsShared, after, behind, choice, at_item, of_name, of_word, of_items, of_list, of_counted, of_chosen, of_ranged, of_natural, of_unsigned32, of_signed32}
+use Rattle.json_tree.proofs.Causes.{AllowsShared, after, behind, choice, at_item, of_name, of_word, of_items, of_counted, of_chosen, of_ranged, of_natural, of_unsigned32, of_signed32}
 use Rattle.asm_syntax.specs.declared.operations.AluImmOp.{AluImmOp}
 use Rattle.asm_syntax.specs.declared.operations.AluImmOp.TheVariants.{Mulli, Subfic, Addic, Addi, Addis}
 use Rattle.asm_syntax.specs.declared.operations.CmpImmOp.{CmpImmOp}
 use Rattle.asm_syntax.specs.declared.operations.CmpImmOp.TheVariants.{Cmpwi, Cmplwi}
-use Rattle.asm_syntax.specs.declared.limits.TheConstants.{MOST_LABELS}
 use Rattle.dump_reader.specs.declared.constant.Part.{Part}
 use Rattle.dump_reader.specs.Causes.{is_unit_cause}
 use Rattle.dump_reader.specs.Words.{if_allowed, allowed_word}
-use Rattle.dump_reader.specs.Operands.{register, bit_number, cr_field, signed16, compared, labels, low_parts, high_parts, symbolic, short, is_array, constant, alu_constant, displacement}
+use Rattle.dump_reader.specs.Operands.{register, bit_number, cr_field, signed16, compared, low_parts, high_parts, symbolic, short, is_array, constant, alu_constant, displacement}
 use Rattle.dump_reader.specs.Instructions.{two_registers, three_registers, one_number, one_symbol, bit_and_label}
 
 abbrev pub Fails : {T : Type 0} → Result T Fault → Type 0
 Fails r = FailsBy is_unit_cause r
 
 pub shared : AllowsShared is_unit_cause
-shared = record { missing = refl; wrong_kind = refl; out_of_range = refl; unknown_word = refl; version = refl; limit = λ n. refl }
+shared Missing h = h
+shared WrongKind h = h
+shared OutOfRange h = h
+shared UnknownWord h = h
+shared Version h = h
+shared (Shape shape) h = refl
+shared Refused h = refl
+shared RangeOrder h = h
+shared Unaligned h = h
+shared (Limit most) h = h
 
 -- ---- words and operands
 
@@ -45,12 +53,6 @@ pub of_compared : (op : CmpImmOp) (d : Data) → Fails (compared op d)
 unfolding compared
 of_compared Cmpwi d = of_ranged _ shared (negsuc 32767) (pos 32767) d
 of_compared Cmplwi d = of_ranged _ shared (pos 0) (pos 65535) d
-
-pub of_labels : (d : Data) → Fails (labels d)
-unfolding labels
-of_labels d =
-    after _ (items d) _ (of_items _ shared d) λ ds.
-    choice _ (length ds == 0) _ _ refl (of_list _ shared MOST_LABELS unsigned32 d (of_unsigned32 _ shared))
 
 of_symbolic : (taken : List (List ℕ × Part)) (d : Data) → Fails (symbolic taken d)
 unfolding symbolic

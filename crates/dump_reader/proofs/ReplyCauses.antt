@@ -1,5 +1,4 @@
 -- The causes for which a tree is no replies.
-use Rattle.std.proofs.Common.{refl}
 use Rattle.std.specs.Prelude.{codes}
 use Rattle.serde_json.specs.Data.{Data}
 use Rattle.json_tree.specs.Causes.{is_shared_cause, FailsBy}
@@ -13,7 +12,7 @@ use Rattle.dump_reader.specs.Operands.{is_array}
 use Rattle.dump_reader.specs.ReplyTree.{two_words, one_word, reply, replies}
 
 plain : AllowsShared is_shared_cause
-plain = record { missing = refl; wrong_kind = refl; out_of_range = refl; unknown_word = refl; version = refl; limit = λ n. refl }
+plain cause h = h
 
 of_two_words : (d : Data) → FailsBy is_shared_cause (two_words d)
 unfolding two_words

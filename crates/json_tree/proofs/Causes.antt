@@ -1,5 +1,5 @@
 -- The readings that the profiles share fail for the causes that these share.
-use Rattle.std.proofs.Common.{◌≡◌, ℕ, ◌+◌, ℤ, pos, negsuc, Bool, true, false, List, [], ◌∷◌, length, Option, Some, None, Result, Ok, Err}
+use Rattle.std.proofs.Common.{◌≡◌, ℕ, ◌+◌, ℤ, pos, negsuc, Bool, true, false, List, [], ◌∷◌, length, Option, Some, None, Result, Ok, Err, refl}
 use Rattle.std.specs.Prelude.{nat_le, int_lt, ◌&&◌, ◌||◌, ◌==◌, ◌/◌, ◌-◌, ◌^◌, slice_index_or, if◌then◌else◌, is_some}
 use Rattle.std.specs.List.{list_all}
 use Rattle.std.specs.Str.{bytes_eq}
@@ -11,22 +11,16 @@ use Rattle.asm_syntax.specs.declared.path.Step.TheVariants.{Key, Index}
 use Rattle.json_tree.specs.declared.fault.Cause.{Cause}
 use Rattle.json_tree.specs.declared.fault.Cause.TheVariants.{Missing, WrongKind, OutOfRange, UnknownWord, Version, Limit}
 use Rattle.json_tree.specs.declared.fault.Fault.{Fault}
-use Rattle.json_tree.specs.Causes.{FailsBy}
+use Rattle.json_tree.specs.Causes.{is_shared_cause, FailsBy}
 use Rattle.json_tree.specs.Reading.{◌>>=◌, ◌>>◌, under, of_kind, if_there, object, boolean, text, or_null, field, name, stated, look_up, known, word_of}
 use Rattle.json_tree.specs.Arrays.{items, limited, each_from, list, counted, tuple, nth, chosen}
 use Rattle.json_tree.specs.Numbers.{integer, ranged, up_to, natural, wrapped, word, unsigned32, unsigned16, signed32}
 use Rattle.json_tree.specs.Addresses.{is_hex_digit, address_text, address_of, address}
-use Rattle.json_tree.specs.NewNames.{is_taken, with_name, new_name, named_list}
 use Rattle.json_tree.specs.Profile.{version_to, version, header}
 
--- the causes that all profiles share are allowed
-pub record AllowsShared (allows : Cause → Bool) : Type 0 where
-  pub missing : allows Missing ≡ true
-  pub wrong_kind : allows WrongKind ≡ true
-  pub out_of_range : allows OutOfRange ≡ true
-  pub unknown_word : allows UnknownWord ≡ true
-  pub version : allows Version ≡ true
-  pub limit : (n : ℕ) → allows (Limit n) ≡ true
+-- the causes that any profile may have are allowed
+abbrev pub AllowsShared : (Cause → Bool) → Type 0
+AllowsShared allows = (cause : Cause) → is_shared_cause cause ≡ true → allows cause ≡ true
 
 module _ (allows : Cause → Bool) where
   -- ---- one reading after another
@@ -60,7 +54,7 @@ module _ (allows : Cause → Bool) where
 module _ (allows : Cause → Bool) (shared : AllowsShared allows) where
   -- ---- kinds and texts
   pub of_a_kind : {A T : Type 0} (o : Option A) (read : A → Result T Fault) → ((a : A) → FailsBy allows (read a)) → FailsBy allows (of_kind o read)
-  of_a_kind None read h = shared.wrong_kind
+  of_a_kind None read h = shared WrongKind refl
   of_a_kind (Some a) read h = h a
 
   pub of_object : (d : Data) → FailsBy allows (object d)
@@ -74,14 +68,14 @@ module _ (allows : Cause → Bool) (shared : AllowsShared allows) where
 
   pub of_name : (d : Data) → FailsBy allows (name d)
   unfolding name
-  of_name d = after allows (text d) _ (of_text d) λ bytes. choice allows (is_name bytes) _ _ tt shared.out_of_range
+  of_name d = after allows (text d) _ (of_text d) λ bytes. choice allows (is_name bytes) _ _ tt (shared OutOfRange refl)
 
   pub of_stated : (bytes : List ℕ) (d : Data) → FailsBy allows (stated bytes d)
   unfolding stated
-  of_stated bytes d = after allows (text d) _ (of_text d) λ found. choice allows (bytes_eq found bytes) _ _ tt shared.unknown_word
+  of_stated bytes d = after allows (text d) _ (of_text d) λ found. choice allows (bytes_eq found bytes) _ _ tt (shared UnknownWord refl)
 
   pub of_known : {T : Type 0} (o : Option T) → FailsBy allows (known o)
-  of_known None = shared.unknown_word
+  of_known None = shared UnknownWord refl
   of_known (Some x) = tt
 
   pub of_word : {T : Type 0} (table : List (List ℕ × T)) (d : Data) → FailsBy allows (word_of table d)
@@ -96,7 +90,7 @@ module _ (allows : Cause → Bool) (shared : AllowsShared allows) where
   unfolding field
   at_field key read d h = below allows (Key key) (if_there (get key d) read) (at (get key d)) where
     at : (o : Option Data) → FailsBy allows (if_there o read)
-    at None = shared.missing
+    at None = shared Missing refl
     at (Some e) = h e
 
   -- ---- arrays
@@ -106,7 +100,7 @@ module _ (allows : Cause → Bool) (shared : AllowsShared allows) where
 
   pub of_limited : (limit : ℕ) (ds : List Data) → FailsBy allows (limited limit ds)
   unfolding limited
-  of_limited limit ds = choice allows (nat_le (length ds) limit) _ _ tt (shared.limit limit)
+  of_limited limit ds = choice allows (nat_le (length ds) limit) _ _ tt (shared (Limit limit) refl)
 
   pub of_list : {T : Type 0} (limit : ℕ) (read : Data → Result T Fault) (d : Data) → ((e : Data) → FailsBy allows (read e)) → FailsBy allows (list limit read d)
   unfolding list
@@ -117,7 +111,7 @@ module _ (allows : Cause → Bool) (shared : AllowsShared allows) where
 
   pub of_counted : (count : ℕ) (ds : List Data) → FailsBy allows (counted count ds)
   unfolding counted
-  of_counted count ds = choice allows (length ds == count) _ _ tt shared.out_of_range
+  of_counted count ds = choice allows (length ds == count) _ _ tt (shared OutOfRange refl)
 
   pub of_tuple : (count : ℕ) (d : Data) → FailsBy allows (tuple count d)
   unfolding tuple
@@ -125,7 +119,7 @@ module _ (allows : Cause → Bool) (shared : AllowsShared allows) where
 
   pub of_chosen : {T : Type 0} (read : Data → Result T Fault) (ds : List Data) → ((d : Data) → FailsBy allows (read d)) → FailsBy allows (chosen read ds)
   unfolding chosen
-  of_chosen read ds h = choice allows (length ds == 0) _ _ shared.out_of_range (at_item allows 0 read ds h)
+  of_chosen read ds h = choice allows (length ds == 0) _ _ (shared OutOfRange refl) (at_item allows 0 read ds h)
 
   -- ---- numbers
   pub of_integer : (d : Data) → FailsBy allows (integer d)
@@ -133,11 +127,11 @@ module _ (allows : Cause → Bool) (shared : AllowsShared allows) where
 
   pub of_ranged : (lo hi : ℤ) (d : Data) → FailsBy allows (ranged lo hi d)
   unfolding ranged
-  of_ranged lo hi d = after allows (integer d) _ (of_integer d) λ z. choice allows (int_lt z lo || int_lt hi z) _ _ shared.out_of_range tt
+  of_ranged lo hi d = after allows (integer d) _ (of_integer d) λ z. choice allows (int_lt z lo || int_lt hi z) _ _ (shared OutOfRange refl) tt
 
   of_up_to : (most : ℕ) (z : ℤ) → FailsBy allows (up_to most z)
-  of_up_to most (pos n) = choice allows (nat_le n most) _ _ tt shared.out_of_range
-  of_up_to most (negsuc n) = shared.out_of_range
+  of_up_to most (pos n) = choice allows (nat_le n most) _ _ tt (shared OutOfRange refl)
+  of_up_to most (negsuc n) = shared OutOfRange refl
 
   pub of_natural : (most : ℕ) (d : Data) → FailsBy allows (natural most d)
   unfolding natural
@@ -164,9 +158,9 @@ module _ (allows : Cause → Bool) (shared : AllowsShared allows) where
   of_signed32 d = of_ranged (negsuc 0x7fffffff) (pos 0x7fffffff) d
 
   of_address_text : (bytes : List ℕ) → FailsBy allows (address_text bytes)
-  of_address_text [] = shared.out_of_range
-  of_address_text (a ∷ []) = shared.out_of_range
-  of_address_text (a ∷ b ∷ digits) = choice allows (a == 0x30 && b == 0x78 && nat_le 1 (length digits) && nat_le (length digits) 8 && list_all is_hex_digit digits) _ _ tt shared.out_of_range
+  of_address_text [] = shared OutOfRange refl
+  of_address_text (a ∷ []) = shared OutOfRange refl
+  of_address_text (a ∷ b ∷ digits) = choice allows (a == 0x30 && b == 0x78 && nat_le 1 (length digits) && nat_le (length digits) 8 && list_all is_hex_digit digits) _ _ tt (shared OutOfRange refl)
 
   pub of_address : (d : Data) → FailsBy allows (address d)
   unfolding address
@@ -175,22 +169,10 @@ module _ (allows : Cause → Bool) (shared : AllowsShared allows) where
     at (Some bytes) = of_address_text bytes
     at None = of_unsigned32 d
 
-  -- ---- names that must be new
-  pub of_new_name : (taken : List (List ℕ)) (d : Data) → FailsBy allows (new_name taken d)
-  unfolding new_name
-  of_new_name taken d = after allows (name d) _ (of_name d) λ bytes. choice allows (is_taken taken bytes) _ _ shared.out_of_range tt
-
-  pub of_named_list : {T : Type 0} (name_of : T → List ℕ) (read : List (List ℕ) → Data → Result T Fault) (taken : List (List ℕ)) (limit : ℕ) (d : Data) → ((left : List (List ℕ)) (e : Data) → FailsBy allows (read left e)) → FailsBy allows (named_list name_of read taken limit d)
-  unfolding named_list
-  of_named_list name_of read taken limit d h =
-      after allows (items d) _ (of_items d) λ ds.
-      behind allows (limited limit ds) _ (of_limited limit ds)
-      (of_each allows (λ left x. with_name left (name_of x)) read h taken 0 ds)
-
   -- ---- what comes first in all profiles
   of_version_to : (newest : ℕ) (z : ℤ) → FailsBy allows (version_to newest z)
-  of_version_to newest (pos n) = choice allows (nat_le 1 n && nat_le n newest) _ _ tt shared.version
-  of_version_to newest (negsuc n) = shared.version
+  of_version_to newest (pos n) = choice allows (nat_le 1 n && nat_le n newest) _ _ tt (shared Version refl)
+  of_version_to newest (negsuc n) = shared Version refl
 
   pub of_version : (newest : ℕ) (d : Data) → FailsBy allows (version newest d)
   unfolding version

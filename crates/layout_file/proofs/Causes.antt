@@ -7,6 +7,7 @@ use Rattle.asm_syntax.specs.Names.{is_name_byte}
 use Rattle.asm_syntax.specs.declared.path.Step.TheVariants.{Key, Index}
 use Rattle.ordered_tests.specs.Checks.{Check, first_fault}
 use Rattle.json_tree.specs.declared.fault.Cause.{Cause}
+use Rattle.json_tree.specs.declared.fault.Cause.TheVariants.{Missing, WrongKind, OutOfRange, UnknownWord, Version, Shape, Refused, RangeOrder, Unaligned, Limit}
 use Rattle.json_tree.specs.declared.fault.Fault.{Fault}
 use Rattle.json_tree.specs.Causes.{FailsBy}
 use Rattle.json_tree.specs.Reading.{under, object, field, text, or_null, name, word_of}
@@ -25,7 +26,16 @@ abbrev Fails : {T : Type 0} → Result T Fault → Type 0
 Fails r = FailsBy is_layout_cause r
 
 shared : AllowsShared is_layout_cause
-shared = record { missing = refl; wrong_kind = refl; out_of_range = refl; unknown_word = refl; version = refl; limit = λ n. refl }
+shared Missing h = h
+shared WrongKind h = h
+shared OutOfRange h = h
+shared UnknownWord h = h
+shared Version h = h
+shared (Shape shape) h = h
+shared Refused h = h
+shared RangeOrder h = refl
+shared Unaligned h = refl
+shared (Limit most) h = h
 
 -- ---- ranges
 
