@@ -20,24 +20,30 @@ use Rattle.asm_syntax.specs.declared.operations.MoveOp.TheVariants as MoveOps
 use Rattle.asm_syntax.specs.declared.operations.BarOp.TheVariants as BarOps
 use Rattle.asm_syntax.specs.Places.{alu_imm_place, log_imm_place, alu_place, alu2_place, log_place, log2_place, rot_place, load_place, store_place, load_x_place, store_x_place, cmp_place, cmp_imm_place, cr_bit_place, move_place, bar_place}
 
-alu_imm_row : map (λ op. name_at alu_imm_names (alu_imm_place op)) (AluImmOps.Mulli ∷ AluImmOps.Subfic ∷ AluImmOps.Addic ∷ AluImmOps.Addi ∷ AluImmOps.Addis ∷ [])
+alu_imm_row : map (λ op. name_at alu_imm_names (alu_imm_place op)) (AluImmOps.Mulli ∷ AluImmOps.Subfic ∷ AluImmOps.Addic
+    ∷ AluImmOps.Addi ∷ AluImmOps.Addis ∷ [])
     ≡ codes "mulli" ∷ codes "subfic" ∷ codes "addic" ∷ codes "addi" ∷ codes "addis" ∷ []
 alu_imm_row = refl
 
-log_imm_row : map (λ op. name_at log_imm_names (log_imm_place op)) (LogImmOps.Ori ∷ LogImmOps.Oris ∷ LogImmOps.Xori ∷ LogImmOps.Xoris ∷ LogImmOps.AndiDot ∷ LogImmOps.AndisDot ∷ [])
+log_imm_row : map (λ op. name_at log_imm_names (log_imm_place op)) (LogImmOps.Ori ∷ LogImmOps.Oris ∷ LogImmOps.Xori
+    ∷ LogImmOps.Xoris ∷ LogImmOps.AndiDot ∷ LogImmOps.AndisDot ∷ [])
     ≡ codes "ori" ∷ codes "oris" ∷ codes "xori" ∷ codes "xoris" ∷ codes "andi." ∷ codes "andis." ∷ []
 log_imm_row = refl
 
-alu_row : map (λ op. name_at alu_names (alu_place op)) (AluOps.Subfc ∷ AluOps.Addc ∷ AluOps.Mulhwu ∷ AluOps.Subf ∷ AluOps.Mulhw ∷ AluOps.Subfe ∷ AluOps.Adde ∷ AluOps.Mullw ∷ AluOps.Add ∷ AluOps.Divwu ∷ AluOps.Divw ∷ [])
-    ≡ codes "subfc" ∷ codes "addc" ∷ codes "mulhwu" ∷ codes "subf" ∷ codes "mulhw" ∷ codes "subfe" ∷ codes "adde" ∷ codes "mullw" ∷ codes "add" ∷ codes "divwu" ∷ codes "divw" ∷ []
+alu_row : map (λ op. name_at alu_names (alu_place op)) (AluOps.Subfc ∷ AluOps.Addc ∷ AluOps.Mulhwu ∷ AluOps.Subf ∷ AluOps.Mulhw
+    ∷ AluOps.Subfe ∷ AluOps.Adde ∷ AluOps.Mullw ∷ AluOps.Add ∷ AluOps.Divwu ∷ AluOps.Divw ∷ [])
+    ≡ codes "subfc" ∷ codes "addc" ∷ codes "mulhwu" ∷ codes "subf" ∷ codes "mulhw" ∷ codes "subfe" ∷ codes "adde" ∷ codes "mullw"
+    ∷ codes "add" ∷ codes "divwu" ∷ codes "divw" ∷ []
 alu_row = refl
 
 alu2_row : map (λ op. name_at alu2_names (alu2_place op)) (Alu2Ops.Neg ∷ Alu2Ops.Subfze ∷ Alu2Ops.Addze ∷ [])
     ≡ codes "neg" ∷ codes "subfze" ∷ codes "addze" ∷ []
 alu2_row = refl
 
-log_row : map (λ op. name_at log_names (log_place op)) (LogOps.Slw ∷ LogOps.And ∷ LogOps.Andc ∷ LogOps.Nor ∷ LogOps.Eqv ∷ LogOps.Xor ∷ LogOps.Orc ∷ LogOps.Or ∷ LogOps.Nand ∷ LogOps.Srw ∷ LogOps.Sraw ∷ LogOps.AndDot ∷ [])
-    ≡ codes "slw" ∷ codes "and" ∷ codes "andc" ∷ codes "nor" ∷ codes "eqv" ∷ codes "xor" ∷ codes "orc" ∷ codes "or" ∷ codes "nand" ∷ codes "srw" ∷ codes "sraw" ∷ codes "and." ∷ []
+log_row : map (λ op. name_at log_names (log_place op)) (LogOps.Slw ∷ LogOps.And ∷ LogOps.Andc ∷ LogOps.Nor ∷ LogOps.Eqv
+    ∷ LogOps.Xor ∷ LogOps.Orc ∷ LogOps.Or ∷ LogOps.Nand ∷ LogOps.Srw ∷ LogOps.Sraw ∷ LogOps.AndDot ∷ [])
+    ≡ codes "slw" ∷ codes "and" ∷ codes "andc" ∷ codes "nor" ∷ codes "eqv" ∷ codes "xor" ∷ codes "orc" ∷ codes "or" ∷ codes "nand"
+    ∷ codes "srw" ∷ codes "sraw" ∷ codes "and." ∷ []
 log_row = refl
 
 log2_row : map (λ op. name_at log2_names (log2_place op)) (Log2Ops.Cntlzw ∷ Log2Ops.Extsh ∷ Log2Ops.Extsb ∷ [])
@@ -56,11 +62,13 @@ store_row : map (λ op. name_at store_names (store_place op)) (StoreOps.Stw ∷ 
     ≡ codes "stw" ∷ codes "stb" ∷ codes "sth" ∷ []
 store_row = refl
 
-load_x_row : map (λ op. name_at load_x_names (load_x_place op)) (LoadXOps.Lwzx ∷ LoadXOps.Lbzx ∷ LoadXOps.Lhzx ∷ LoadXOps.Lhax ∷ LoadXOps.Lwbrx ∷ LoadXOps.Lhbrx ∷ [])
+load_x_row : map (λ op. name_at load_x_names (load_x_place op)) (LoadXOps.Lwzx ∷ LoadXOps.Lbzx ∷ LoadXOps.Lhzx ∷ LoadXOps.Lhax
+    ∷ LoadXOps.Lwbrx ∷ LoadXOps.Lhbrx ∷ [])
     ≡ codes "lwzx" ∷ codes "lbzx" ∷ codes "lhzx" ∷ codes "lhax" ∷ codes "lwbrx" ∷ codes "lhbrx" ∷ []
 load_x_row = refl
 
-store_x_row : map (λ op. name_at store_x_names (store_x_place op)) (StoreXOps.Stwx ∷ StoreXOps.Stbx ∷ StoreXOps.Sthx ∷ StoreXOps.Stwbrx ∷ StoreXOps.Sthbrx ∷ [])
+store_x_row : map (λ op. name_at store_x_names (store_x_place op)) (StoreXOps.Stwx ∷ StoreXOps.Stbx ∷ StoreXOps.Sthx
+    ∷ StoreXOps.Stwbrx ∷ StoreXOps.Sthbrx ∷ [])
     ≡ codes "stwx" ∷ codes "stbx" ∷ codes "sthx" ∷ codes "stwbrx" ∷ codes "sthbrx" ∷ []
 store_x_row = refl
 

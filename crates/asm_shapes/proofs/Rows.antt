@@ -19,10 +19,8 @@ use Rattle.asm_syntax.specs.declared.instr.Instr.{Instr}
 use Rattle.asm_syntax.specs.declared.instr.Instr.TheVariants.{Plain, AllocFrame, FreeFrame, Bt, Bf, Btbl, MfcrBit, Label, Cfi, Annot}
 use Rattle.asm_syntax.specs.declared.shape.ShapeError.{ShapeError}
 use Rattle.asm_syntax.specs.declared.shape.ShapeError.TheVariants.{WritesReserved, NoLabel, TwoLabels, BadFrame, Empty, BadRange}
-use Rattle.asm_syntax.specs.declared.unit.Width.TheVariants.{Word, Long}
 use Rattle.asm_shapes.specs.Shapes.{function_tests}
 use Rattle.asm_shapes.specs.Operands.{is_frame_size, instr_in_range}
-use Rattle.asm_shapes.specs.Signatures.{argument_registers, is_valid_sig}
 
 fault : List Instr → Option ShapeError
 fault code = first_fault (function_tests code)
@@ -51,7 +49,8 @@ logic_target : fault (Plain (Plains.Log Or 3 2 2) ∷ Plain (Plains.Log Or 2 3 3
 unfolding fault
 logic_target = refl
 
-move_target_row : fault (Plain (Plains.Move Mtlr 1) ∷ Plain (Plains.Store Stw 13 (Int (pos 8)) 1) ∷ Plain (Plains.Move Mflr 13) ∷ []) ≡ Some (WritesReserved 2)
+move_target_row : fault (Plain (Plains.Move Mtlr 1) ∷ Plain (Plains.Store Stw 13 (Int (pos 8)) 1) ∷ Plain (Plains.Move Mflr 13)
+    ∷ []) ≡ Some (WritesReserved 2)
 unfolding fault
 move_target_row = refl
 
@@ -101,7 +100,13 @@ inside : list_all instr_in_range (
     ∷ Plain (Plains.AluImm Addis 3 4 (Ha (codes "x") (pos 0)))
     ∷ Plain (Plains.Load Lwz 3 (Sda (codes "x") (pos 0)) 0)
     ∷ Plain (Plains.CmpImm Cmplwi 7 3 (pos 65535))
-    ∷ Plain (Plains.Rot Rlwinm 3 4 31 0 31)
+    ∷ Plain (Plains.Rot Rlwinm 3 4 31 31 31)
+    ∷ Plain (Plains.Srawi 3 4 31)
+    ∷ Plain (Plains.Cmp Cmpw 7 3 4)
+    ∷ Plain (Plains.CrBit Crxor 31 31 31)
+    ∷ Bt 31 1
+    ∷ Bf 31 1
+    ∷ MfcrBit 3 31
     ∷ []) ≡ true
 inside = refl
 
@@ -117,28 +122,16 @@ outside : list_any instr_in_range (
     ∷ Plain (Plains.CmpImm Cmpwi 7 3 (pos 32768))
     ∷ Plain (Plains.CmpImm Cmplwi 7 3 (negsuc 0))
     ∷ Plain (Plains.Cmp Cmpw 8 3 4)
-    ∷ Plain (Plains.CrBit Crxor 31 32 0)
+    ∷ Plain (Plains.CmpImm Cmpwi 8 3 (pos 0))
+    ∷ Plain (Plains.CrBit Crxor 32 31 31)
+    ∷ Plain (Plains.CrBit Crxor 31 32 31)
+    ∷ Plain (Plains.CrBit Crxor 31 31 32)
     ∷ Plain (Plains.Srawi 3 4 32)
-    ∷ Plain (Plains.Rot Rlwinm 3 4 0 32 31)
+    ∷ Plain (Plains.Rot Rlwinm 3 4 32 31 31)
+    ∷ Plain (Plains.Rot Rlwinm 3 4 31 32 31)
+    ∷ Plain (Plains.Rot Rlwinm 3 4 31 31 32)
+    ∷ Bt 32 1
+    ∷ Bf 32 1
     ∷ MfcrBit 3 32
     ∷ []) ≡ false
 outside = refl
-
--- a long passes over an even register
-pair_row : argument_registers (Word ∷ Long ∷ Word ∷ []) ≡ 3 ∷ 5 ∷ 6 ∷ 7 ∷ []
-pair_row = refl
-
-up_to_r10 : is_valid_sig (Long ∷ Word ∷ Long ∷ Word ∷ Word ∷ []) ≡ true
-up_to_r10 = refl
-
-past_r10 : is_valid_sig (Long ∷ Word ∷ Long ∷ Word ∷ Long ∷ []) ≡ false
-past_r10 = refl
-
-four_longs : is_valid_sig (Long ∷ Long ∷ Long ∷ Long ∷ []) ≡ true
-four_longs = refl
-
-eight_words : is_valid_sig (Word ∷ Word ∷ Word ∷ Word ∷ Word ∷ Word ∷ Word ∷ Word ∷ []) ≡ true
-eight_words = refl
-
-nine_words : is_valid_sig (Word ∷ Word ∷ Word ∷ Word ∷ Word ∷ Word ∷ Word ∷ Word ∷ Word ∷ []) ≡ false
-nine_words = refl

@@ -1,6 +1,7 @@
 -- Worked rows of units: one that fits, and for each cause one that does not.
 use Rattle.std.proofs.Common.{◌≡◌, ℕ, true, false, List, [], ◌∷◌, Some, None, refl}
 use Rattle.std.specs.Prelude.{codes, replicate}
+use Rattle.std.specs.List.{list_all, list_any}
 use Rattle.asm_syntax.specs.declared.instr.Jump.TheVariants.{Blr}
 use Rattle.asm_syntax.specs.declared.instr.Plain.TheVariants as Plains
 use Rattle.asm_syntax.specs.declared.instr.Instr.{Instr}
@@ -13,7 +14,7 @@ use Rattle.asm_syntax.specs.declared.unit.Width.{Width}
 use Rattle.asm_syntax.specs.declared.unit.Width.TheVariants.{Word, Long}
 use Rattle.asm_syntax.specs.declared.unit.External.{External}
 use Rattle.asm_syntax.specs.declared.unit.Unit.{Unit}
-use Rattle.asm_shapes.specs.Units.{unit_fits}
+use Rattle.asm_shapes.specs.Units.{is_alignment, unit_fits}
 
 function : List ℕ → List Instr → Function
 function name code = record { name = name; is_static = false; code = code }
@@ -22,7 +23,7 @@ variable : List ℕ → ℕ → List Init → Variable
 variable name align init = record { name = name; is_static = true; writable = true; align = align; init = init }
 
 external : List ℕ → List Width → External
-external name args = record { name = name; sig = Some (record { args = args; result = None }) }
+external name args = record { name = name; sig = Some (record { args = args; result = None; buffers = [] }) }
 
 blr : Instr
 blr = Plain (Plains.Jump Blr)
@@ -51,6 +52,12 @@ shape = refl
 empty_table : unit_fits (unit (function (codes "f") (Btbl 3 [] ∷ [])) v e) ≡ false
 unfolding unit v e function variable external
 empty_table = refl
+
+alignments : list_all is_alignment (1 ∷ 2 ∷ 4 ∷ 8 ∷ 16 ∷ []) ≡ true
+alignments = refl
+
+no_alignments : list_any is_alignment (0 ∷ 3 ∷ 6 ∷ 12 ∷ 32 ∷ []) ≡ false
+no_alignments = refl
 
 alignment : unit_fits (unit f (variable (codes "v") 3 []) e) ≡ false
 unfolding unit f e function variable external blr

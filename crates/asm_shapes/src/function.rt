@@ -1,11 +1,12 @@
 //! The shapes of functions.
 
-ghost use Rattle.std.specs.Prelude.{◌≡◌, ◌≤◌, length, take, IfOk};
+ghost use Rattle.std.specs.Prelude.{◌≡◌, ◌≤◌, length, take, IfOk, IsOk};
 ghost use Rattle.std.specs.List.{list_any};
 ghost use Rattle.isa_model.specs.Word.{wrapped};
 ghost use Rattle.ordered_tests.specs.Checks.{fault_of, first_fault};
 ghost use Rattle.asm_syntax.specs.Instructions.{has_label, has_words};
 ghost use Rattle.asm_shapes.specs.Shapes.{
+  HasShape,
   code_tests,
   function_tests,
   instr_tests,
@@ -15,7 +16,7 @@ ghost use Rattle.asm_shapes.specs.Shapes.{
   writes_reserved,
 };
 
-use crate::labels::{Indexed, Labelled, Searched};
+use crate::labels::{IndexedCode, Labelled, Searched};
 use crate::operands::{frame_fits, instr_in_range};
 use asm_syntax::instr::{Function, Instr};
 use asm_syntax::reg::Reg;
@@ -127,17 +128,21 @@ fn check_function<C: Labelled>(code: &C) -> Result<(), ShapeError>
 
 /// The first fault of a function: that it has no words, else the fault of its first instruction that has one, and there the one with
 /// the least number. Since it takes no memory, it searches the code for each label: the time grows with the square of the code's length.
+#[tactic(auto, using(crate::proofs::ShapeLemmas::shape_of))]
 pub fn valid_function(f: &Function) -> Result<(), ShapeError>
-    ensures { fault_of result ≡ first_fault (function_tests f.now.code) }
+    ensures fault { fault_of result ≡ first_fault (function_tests f.now.code) }
+    ensures shape { IsOk result → HasShape f.now.code }
 {
     check_function(&Searched::new(f.code.items()))
 }
 
 /// The fault that `valid_function` answers, if there is one. It looks labels up in an ordered map, so the time is near linear in the
 /// instructions and the labels that they name.
+#[tactic(auto, using(crate::proofs::ShapeLemmas::shape_of))]
 pub fn function_fault(alloc: Global, f: &Function) -> Result<Option<ShapeError>, AllocError>
-    ensures { IfOk result (λ fault. fault ≡ first_fault (function_tests f.now.code)) }
+    ensures fault { IfOk result (λ fault. fault ≡ first_fault (function_tests f.now.code)) }
+    ensures shape { IfOk result (λ fault. fault ≡ None → HasShape f.now.code) }
 {
-    let code = Indexed::new(alloc, f.code.items())?;
+    let code = IndexedCode::new(alloc, f.code.items())?;
     Ok(check_function(&code).err())
 }

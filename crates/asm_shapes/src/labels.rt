@@ -1,6 +1,6 @@
 //! Where the labels of a code stand.
 
-ghost use Rattle.std.specs.Prelude.{◌≡◌, List, IfOk};
+ghost use Rattle.std.specs.Prelude.{◌≡◌, ◌<◌, List, length, IfOk, IfSome};
 ghost use Rattle.asm_syntax.specs.declared.instr.Instr.{Instr};
 ghost use Rattle.asm_syntax.specs.Instructions.{label_place};
 ghost use Rattle.asm_shapes.specs.Labels.{Places};
@@ -48,14 +48,14 @@ impl<'a> Labelled for Searched<'a> {
     }
 }
 
-/// A code beside an ordered map of the first places of its labels.
+/// A code beside an ordered map of the first places of its labels, so that a look-up takes time logarithmic in their number.
 #[derive(Drop)]
-pub struct Indexed<'a> {
+pub struct IndexedCode<'a> {
     code: &'a [Instr],
     places: BTreeMap<u32, usize>,
 }
 
-impl<'a> Model for Indexed<'a> {
+impl<'a> Model for IndexedCode<'a> {
     ghost use Rattle.std.specs.Prelude.{List};
     ghost use Rattle.asm_syntax.specs.declared.instr.Instr.{Instr};
     ghost use Rattle.asm_shapes.specs.Labels.{Places};
@@ -79,23 +79,37 @@ fn first_places(alloc: Global, code: &[Instr]) -> Result<BTreeMap<u32, usize>, A
     Ok(places)
 }
 
-impl<'a> Indexed<'a> {
-    pub fn new(alloc: Global, code: &'a [Instr]) -> Result<Indexed<'a>, AllocError>
+impl<'a> IndexedCode<'a> {
+    pub fn new(alloc: Global, code: &'a [Instr]) -> Result<IndexedCode<'a>, AllocError>
         ensures { IfOk result (λ indexed. indexed ≡ code.now) }
     {
         let places = first_places(alloc, code)?;
-        Ok(Indexed { code, places })
+        Ok(IndexedCode { code, places })
     }
-}
 
-impl<'a> Labelled for Indexed<'a> {
-    ghost code = { λ code. code };
-
-    fn code(&self) -> &[Instr] {
+    pub fn code(&self) -> &'a [Instr]
+        ensures { result.now ≡ self.now }
+    {
         self.code
     }
 
-    fn place(&self, label: u32) -> Option<usize> {
+    /// The number of the first instruction that is this label.
+    pub fn place(&self, label: u32) -> Option<usize>
+        ensures value { result ≡ label_place self.now label }
+        ensures inside { IfSome result (λ at. at < length self.now) }
+    {
         self.places.get(&label).copied()
+    }
+}
+
+impl<'a> Labelled for IndexedCode<'a> {
+    ghost code = { λ code. code };
+
+    fn code(&self) -> &[Instr] {
+        IndexedCode::code(self)
+    }
+
+    fn place(&self, label: u32) -> Option<usize> {
+        IndexedCode::place(self, label)
     }
 }

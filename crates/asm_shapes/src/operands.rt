@@ -1,7 +1,7 @@
 //! The ranges of operands.
 
 ghost use Rattle.std.specs.Prelude.{◌≡◌};
-ghost use Rattle.isa_model.specs.Instructions.{is_s16, is_u16};
+ghost use Rattle.isa_model.specs.Operands.{is_s16, is_u16};
 ghost use Rattle.asm_shapes.specs.Operands.{
   frame_fits,
   instr_in_range,
@@ -17,6 +17,7 @@ ghost use Rattle.asm_shapes.specs.Operands.{
 use asm_syntax::instr::{Const, Instr, Plain};
 use asm_syntax::operations::{AluImmOp, CmpImmOp};
 use asm_syntax::reg::Reg;
+use limits::{LEAST_FRAME_BYTES, MOST_FRAME_BYTES};
 
 fn is_s16(n: i32) -> bool
     ensures { result ≡ is_s16 n }
@@ -110,7 +111,7 @@ pub fn instr_in_range(instr: &Instr) -> bool
 fn is_frame_size(n: u32) -> bool
     ensures { result ≡ is_frame_size n }
 {
-    16 <= n && n <= 1_048_576 && n % 8 == 0
+    LEAST_FRAME_BYTES <= n && n <= MOST_FRAME_BYTES && n % 8 == 0
 }
 
 /// Whether the size of a frame, where the instruction makes or frees one, is a multiple of 8 from 16 to 1,048,576.

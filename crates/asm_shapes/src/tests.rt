@@ -1,12 +1,12 @@
-use crate::{first_register, function_fault, unit_fits, valid_function, valid_sig};
+use crate::{function_fault, unit_fits, valid_function};
 use asm_syntax::instr::{Function, Instr, Jump, Plain};
-use asm_syntax::limits::{MOST_EXTERNALS, MOST_INSTRUCTIONS};
 use asm_syntax::listed::Listed;
 use asm_syntax::name::Name;
 use asm_syntax::operations::MoveOp;
 use asm_syntax::reg::Reg;
 use asm_syntax::shape::ShapeError;
-use asm_syntax::unit::{External, Sig, Unit, Width};
+use asm_syntax::unit::{External, Unit};
+use limits::{MOST_EXTERNALS, MOST_INSTRUCTIONS};
 use std::alloc::Global;
 use std::test::Fail;
 
@@ -82,34 +82,6 @@ fn labels_of_a_long_function(rt: HostRuntime) -> Result<(), Fail> {
     let alloc = rt.alloc();
     let f = tables_of_labels(alloc, MOST_INSTRUCTIONS - 64, 64)?;
     assert_eq!(rt; function_fault(alloc, &f)?, None);
-    Ok(())
-}
-
-#[test]
-fn arguments_up_to_r10(rt: HostRuntime) -> Result<(), Fail> {
-    let alloc = rt.alloc();
-    let w = Width::Word;
-    let l = Width::Long;
-    let table = [
-        (vec![in alloc; w, w, w, w, w, w, w, w]?, Ok(())),
-        (vec![in alloc; l, w, l, w, w]?, Ok(())),
-        (
-            vec![in alloc; l, w, l, w, l]?,
-            Err(ShapeError::TooManyArgs(0)),
-        ),
-        (
-            vec![in alloc; w, w, w, w, w, w, w, w, w]?,
-            Err(ShapeError::TooManyArgs(0)),
-        ),
-    ];
-    for (args, want) in table {
-        let sig = Sig {
-            args: Listed::from_vec(args),
-            result: None,
-        };
-        assert_eq!(rt; valid_sig(&sig), want);
-    }
-    assert_eq!(rt; first_register(4, l), 5);
     Ok(())
 }
 

@@ -1,7 +1,9 @@
 //! The limits of a unit and the names in it.
 
-ghost use Rattle.std.specs.Prelude.{◌≡◌, ℕ, List, map};
-ghost use Rattle.asm_shapes.specs.Shapes.{is_valid_code};
+ghost use Rattle.std.specs.Prelude.{◌≡◌, ℕ, List, map, IsTrue};
+ghost use Rattle.ordered_tests.specs.Lists.{EachOf};
+ghost use Rattle.asm_shapes.specs.Shapes.{HasShape, is_valid_code};
+ghost use Rattle.asm_shapes.specs.Signatures.{is_valid_sig};
 ghost use Rattle.asm_shapes.specs.Units.{
   are_apart,
   are_distinct,
@@ -12,7 +14,6 @@ ghost use Rattle.asm_shapes.specs.Units.{
   function_name,
   is_alignment,
   is_among,
-  sig_fits,
   table_fits,
   unit_fits,
   unit_names,
@@ -24,11 +25,11 @@ ghost use Rattle.std.specs.List.{list_all};
 use crate::function::valid_function;
 use crate::signature::valid_sig;
 use asm_syntax::instr::{Function, Instr};
-use asm_syntax::limits::{
-    MOST_EXTERNALS, MOST_FUNCTIONS, MOST_INIT_ITEMS, MOST_INSTRUCTIONS, MOST_LABELS, MOST_VARIABLES,
-};
 use asm_syntax::name::Name;
 use asm_syntax::unit::{External, Sig, Unit, Variable, variable_size};
+use limits::{
+    MOST_EXTERNALS, MOST_FUNCTIONS, MOST_INIT_ITEMS, MOST_INSTRUCTIONS, MOST_LABELS, MOST_VARIABLES,
+};
 
 /// What has a name in a unit.
 trait Named: Sized {
@@ -157,8 +158,8 @@ fn variable_fits(v: &Variable) -> bool
     is_alignment(v.align) && init.len() <= MOST_INIT_ITEMS as usize && variable_size(init).is_some()
 }
 
-fn sig_fits(sig: &Sig) -> bool
-    ensures { result ≡ sig_fits sig.now }
+fn has_valid_sig(sig: &Sig) -> bool
+    ensures { result ≡ is_valid_sig sig.now }
 {
     match valid_sig(sig) {
         Ok(()) => true,
@@ -170,7 +171,7 @@ fn external_fits(e: &External) -> bool
     ensures { result ≡ external_fits e.now }
 {
     match &e.sig {
-        Some(sig) => sig_fits(sig),
+        Some(sig) => has_valid_sig(sig),
         None => true,
     }
 }
@@ -203,8 +204,10 @@ fn externals_fit(externals: &[External]) -> bool
 
 /// Whether the counts and sizes are inside the limits, no two names are the same, and each function and signature has its shape.
 /// The time grows with the square of the number of names, since it takes no memory.
+#[tactic(auto, using(crate::proofs::UnitLemmas::unit_shapes))]
 pub fn unit_fits(u: &Unit) -> bool
-    ensures { result ≡ unit_fits u.now }
+    ensures value { result ≡ unit_fits u.now }
+    ensures shapes { IsTrue result → EachOf (λ f. HasShape f.code) u.now.functions }
 {
     counts_fit(u)
         && names_are_distinct(u)

@@ -1,18 +1,25 @@
 //! Variables, externals and whole compilation units.
 
-ghost use Rattle.std.specs.Prelude.{◌≡◌, ◌≤◌};
-ghost use Rattle.asm_syntax.specs.Sizes.{init_size, limited_size, width_words};
+ghost use Rattle.std.specs.Prelude.{◌≡◌, ◌≤◌, ◌↔◌, IsTrue};
+ghost use Rattle.asm_syntax.specs.Sigs.{same_sig};
+ghost use Rattle.asm_syntax.specs.Sizes.{init_size, init_symbol, limited_size, width_words};
 
 use crate::instr::Function;
-use crate::limits::MOST_VARIABLE_BYTES;
 use crate::listed::Listed;
 use crate::name::Name;
+use crate::symbol::Symbol;
+use limits::MOST_VARIABLE_BYTES;
 
 pub type ByteList = Listed<u8>;
 
 pub type InitList = Listed<Init>;
 
 pub type WidthList = Listed<Width>;
+
+pub type BufferList = Listed<Buffer>;
+
+/// The bytes of each buffer that is filled.
+pub type FillList = Listed<ByteList>;
 
 pub type FunctionList = Listed<Function>;
 
@@ -67,11 +74,38 @@ impl Width {
     }
 }
 
-/// What an external function takes and gives (PowerPC EABI, "Parameter Passing").
-#[derive(Debug, Drop)]
+/// The bytes of a buffer: a number, or the word of the argument with this place, from 0.
+#[derive(Clone, Copy, Debug, PartialEq, Eq, Drop)]
+pub enum Size {
+    Fixed(u32),
+    Arg(u8),
+}
+
+/// A buffer that an external function reads or fills.
+#[derive(Clone, Copy, Debug, PartialEq, Eq, Drop)]
+pub struct Buffer {
+    pub fills: bool,
+    /// The place of the argument that points to it, from 0.
+    pub arg: u8,
+    pub size: Size,
+}
+
+/// What an external function takes and gives (PowerPC EABI, "Parameter Passing"), and the buffers that its arguments point to.
+#[derive(Debug, PartialEq, Eq, Drop)]
 pub struct Sig {
     pub args: WidthList,
     pub result: Option<Width>,
+    pub buffers: BufferList,
+}
+
+impl Sig {
+    /// Whether both take and give the same, and have the same buffers.
+    pub fn is_same_as(&self, other: &Sig) -> bool
+        ensures value { result ≡ same_sig self.now other.now }
+        ensures equal { IsTrue result ↔ (self.now ≡ other.now) }
+    {
+        self == other
+    }
 }
 
 /// A symbol that no unit defines. Without a signature it is an object whose address may be taken and that is never called.
@@ -89,8 +123,8 @@ pub struct Unit {
     pub externals: ExternalList,
 }
 
-/// What an external call leaves in the registers that a call may change.
-#[derive(Clone, Copy, Debug, PartialEq, Eq, Drop)]
+/// What an external call leaves in the registers that a call may change, and in the buffers that it fills.
+#[derive(Debug, PartialEq, Eq, Drop)]
 pub struct Reply {
     pub r0: u32,
     pub r3: u32,
@@ -107,6 +141,8 @@ pub struct Reply {
     pub ctr: u32,
     pub lr: u32,
     pub xer: u32,
+    /// For each buffer that the call fills, in the signature's order.
+    pub fills: FillList,
 }
 
 impl Init {
@@ -120,6 +156,16 @@ impl Init {
             Init::Int32(_) | Init::Addr(_, _) => 4,
             Init::Bytes(bytes) => bytes.items().len() as u64,
             Init::Space(n) => u64::from(*n),
+        }
+    }
+
+    /// The symbol whose address it holds.
+    pub fn symbol(&self) -> Option<Symbol<'_>>
+        ensures { result ≡ init_symbol self.now }
+    {
+        match self {
+            Init::Addr(name, offset) => Some(Symbol::new(name, *offset)),
+            _ => None,
         }
     }
 }

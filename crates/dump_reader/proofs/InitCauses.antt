@@ -1,27 +1,18 @@
 -- The causes for which an array is no item of a variable's data.
-use Rattle.std.proofs.Common.{ℕ, List, Result, Ok, Err, refl}
+use Rattle.std.proofs.Common.{List}
 use Rattle.std.specs.Prelude.{◌^◌}
 use Rattle.serde_json.specs.Data.{Data}
-use Rattle.hex.specs.Hex.{decode_of}
-use Rattle.hex.specs.declared.error.FromHexError.{FromHexError}
-use Rattle.asm_syntax.specs.declared.limits.TheConstants.{MOST_VARIABLE_BYTES}
-use Rattle.json_tree.specs.Reading.{text, name}
+use Rattle.limits.specs.declared.TheConstants.{MOST_VARIABLE_BYTES}
+use Rattle.json_tree.specs.Reading.{name}
 use Rattle.json_tree.specs.Arrays.{items, counted, nth, chosen}
 use Rattle.json_tree.specs.Numbers.{natural, wrapped, word, signed32}
-use Rattle.json_tree.proofs.Causes.{after, behind, at_item, of_text, of_name, of_items, of_counted, of_chosen, of_natural, of_wrapped, of_word_number, of_signed32}
+use Rattle.json_tree.proofs.Causes.{after, behind, at_item, of_name, of_items, of_counted, of_chosen, of_natural, of_wrapped, of_word_number, of_signed32}
 use Rattle.dump_reader.specs.declared.init.InitForm.{InitForm}
 use Rattle.dump_reader.specs.declared.init.InitForm.TheVariants as InitForms
 use Rattle.dump_reader.specs.Words.{allowed_word}
-use Rattle.dump_reader.specs.UnitTree.{init_words, if_decoded, digits, int8, int16, int32, bytes, space, addr, init_operands, init}
-use Rattle.dump_reader.proofs.OperandCauses.{Fails, shared, of_allowed}
-
-of_decoded : (r : Result (List ℕ) FromHexError) → Fails (if_decoded r)
-of_decoded (Ok bytes) = tt
-of_decoded (Err e) = refl
-
-of_digits : (d : Data) → Fails (digits d)
-unfolding digits
-of_digits d = after _ (text d) _ (of_text _ shared d) λ s. of_decoded (decode_of s)
+use Rattle.dump_reader.specs.Digits.{digits}
+use Rattle.dump_reader.specs.UnitTree.{init_words, int8, int16, int32, bytes, space, addr, init_operands, init}
+use Rattle.dump_reader.proofs.OperandCauses.{Fails, shared, of_allowed, of_digits}
 
 of_int8 : (ds : List Data) → Fails (int8 ds)
 unfolding int8
@@ -51,7 +42,8 @@ of_space : (ds : List Data) → Fails (space ds)
 unfolding space
 of_space ds =
     behind _ (counted 2 ds) _ (of_counted _ shared 2 ds)
-    (after _ (nth 1 (natural MOST_VARIABLE_BYTES) ds) _ (at_item _ 1 (natural MOST_VARIABLE_BYTES) ds (of_natural _ shared MOST_VARIABLE_BYTES)) λ n. tt)
+    (after _ (nth 1 (natural MOST_VARIABLE_BYTES) ds) _ (at_item _ 1 (natural MOST_VARIABLE_BYTES) ds
+    (of_natural _ shared MOST_VARIABLE_BYTES)) λ n. tt)
 
 of_addr : (ds : List Data) → Fails (addr ds)
 unfolding addr
@@ -73,4 +65,5 @@ pub of_init : (d : Data) → Fails (init d)
 unfolding init
 of_init d =
     after _ (items d) _ (of_items _ shared d) λ ds.
-    after _ (chosen (allowed_word init_words) ds) _ (of_chosen _ shared (allowed_word init_words) ds (of_allowed init_words)) λ form. of_init_operands form ds
+    after _ (chosen (allowed_word init_words) ds) _ (of_chosen _ shared (allowed_word init_words) ds (of_allowed init_words)) λ form.
+    of_init_operands form ds

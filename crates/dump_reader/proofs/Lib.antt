@@ -4,4 +4,5 @@ pub mod Tables
 pub mod Fits
 pub mod OperandCauses
 pub mod InitCauses
+pub mod BufferCauses
 pub mod ReplyCauses

@@ -18,17 +18,21 @@ second false b h = absurd (cc h)
 pub fresh_append : (taken xs ys : List (List ℕ)) → fresh taken (xs ++ ys) ≡ (fresh taken xs && fresh (with_names taken xs) ys)
 unfolding with_names
 fresh_append taken [] ys = refl
-fresh_append taken (x ∷ xs) ys = rw (fresh_append (with_name taken x) xs ys) (regroup (not (is_taken taken x)) (fresh (with_name taken x) xs) (fresh (with_names (with_name taken x) xs) ys)) where
-  regroup : (a b c : Bool) → (a && (b && c)) ≡ ((a && b) && c)
-  regroup true b c = refl
-  regroup false b c = refl
+fresh_append taken (x ∷ xs) ys =
+    rw (fresh_append (with_name taken x) xs ys) (regroup (not (is_taken taken x)) (fresh (with_name taken x) xs) (fresh (with_names
+    (with_name taken x) xs) ys)) where
+      regroup : (a b c : Bool) → (a && (b && c)) ≡ ((a && b) && c)
+      regroup true b c = refl
+      regroup false b c = refl
 
 -- a taken name is none of those that are new
-not_among : (taken names : List (List ℕ)) (name : List ℕ) → is_taken taken name ≡ true → fresh taken names ≡ true → is_among names name ≡ false
+not_among : (taken names : List (List ℕ)) (name : List ℕ) → is_taken taken name ≡ true → fresh taken names ≡ true
+    → is_among names name ≡ false
 not_among taken [] name t h = refl
 not_among taken (x ∷ xs) name t h =
     let new : not (is_taken taken x) ≡ true = first (not (is_taken taken x)) (fresh (with_name taken x) xs) h in
-    let rest : is_among xs name ≡ false = not_among (with_name taken x) xs name (taken_with taken x name ∙ rw t (either (bytes_eq name x))) (second (not (is_taken taken x)) (fresh (with_name taken x) xs) h) in
+    let rest : is_among xs name ≡ false = not_among (with_name taken x) xs name (taken_with taken x name ∙ rw t (either
+    (bytes_eq name x))) (second (not (is_taken taken x)) (fresh (with_name taken x) xs) h) in
     rw rest (other (bytes_eq x name) refl new)
   where
     either : (b : Bool) → (b || true) ≡ true

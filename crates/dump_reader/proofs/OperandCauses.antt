@@ -1,27 +1,30 @@
 -- The causes for which the operands of instructions are not read.
-use Rattle.std.proofs.Common.{ℕ, pos, negsuc, List, Option, Some, None, Result, refl}
+use Rattle.std.proofs.Common.{ℕ, pos, negsuc, List, Option, Some, None, Result, Ok, Err, refl}
 use Rattle.serde_json.specs.Data.{Data}
+use Rattle.hex.specs.Hex.{decode_of}
+use Rattle.hex.specs.declared.error.FromHexError.{FromHexError}
 use Rattle.json_tree.specs.declared.fault.Cause.TheVariants.{Missing, WrongKind, OutOfRange, UnknownWord, Version, Shape, Refused, RangeOrder, Unaligned, Limit}
 use Rattle.json_tree.specs.declared.fault.Fault.{Fault}
 use Rattle.json_tree.specs.Causes.{FailsBy}
-use Rattle.json_tree.specs.Reading.{name, word_of}
+use Rattle.json_tree.specs.Reading.{text, name, word_of}
 use Rattle.json_tree.specs.Arrays.{items, counted, nth, chosen}
 use Rattle.json_tree.specs.Numbers.{unsigned32, signed32}
-use Rattle.json_tree.proofs.Causes.{AllowsShared, after, behind, choice, at_item, of_name, of_word, of_items, of_counted, of_chosen, of_ranged, of_natural, of_unsigned32, of_signed32}
+use Rattle.json_tree.proofs.Causes.{AllowsShared, after, behind, choice, at_item, of_text, of_name, of_word, of_items, of_counted, of_chosen, of_ranged, of_natural, of_unsigned32, of_signed32}
 use Rattle.asm_syntax.specs.declared.operations.AluImmOp.{AluImmOp}
 use Rattle.asm_syntax.specs.declared.operations.AluImmOp.TheVariants.{Mulli, Subfic, Addic, Addi, Addis}
 use Rattle.asm_syntax.specs.declared.operations.CmpImmOp.{CmpImmOp}
 use Rattle.asm_syntax.specs.declared.operations.CmpImmOp.TheVariants.{Cmpwi, Cmplwi}
 use Rattle.dump_reader.specs.declared.constant.Part.{Part}
-use Rattle.dump_reader.specs.Causes.{is_unit_cause}
+use Rattle.dump_reader.specs.Causes.{is_dump_cause}
 use Rattle.dump_reader.specs.Words.{if_allowed, allowed_word}
+use Rattle.dump_reader.specs.Digits.{if_decoded, digits}
 use Rattle.dump_reader.specs.Operands.{register, bit_number, cr_field, signed16, compared, low_parts, high_parts, symbolic, short, is_array, constant, alu_constant, displacement}
 use Rattle.dump_reader.specs.Instructions.{two_registers, three_registers, one_number, one_symbol, bit_and_label}
 
 abbrev pub Fails : {T : Type 0} → Result T Fault → Type 0
-Fails r = FailsBy is_unit_cause r
+Fails r = FailsBy is_dump_cause r
 
-pub shared : AllowsShared is_unit_cause
+pub shared : AllowsShared is_dump_cause
 shared Missing h = h
 shared WrongKind h = h
 shared OutOfRange h = h
@@ -42,6 +45,14 @@ of_meaning (Some x) = tt
 pub of_allowed : {T : Type 0} (table : List (List ℕ × Option T)) (d : Data) → Fails (allowed_word table d)
 unfolding allowed_word
 of_allowed table d = after _ (word_of table d) _ (of_word _ shared table d) λ meaning. of_meaning meaning
+
+of_decoded : (r : Result (List ℕ) FromHexError) → Fails (if_decoded r)
+of_decoded (Ok bytes) = tt
+of_decoded (Err e) = refl
+
+pub of_digits : (d : Data) → Fails (digits d)
+unfolding digits
+of_digits d = after _ (text d) _ (of_text _ shared d) λ s. of_decoded (decode_of s)
 
 pub of_register : (d : Data) → Fails (register d)
 of_register d = of_natural _ shared 31 d

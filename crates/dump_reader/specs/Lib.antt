@@ -1,7 +1,9 @@
 pub mod Words
+pub mod Digits
+pub mod Versions
 pub mod Operands
 pub mod Instructions
 pub mod UnitTree
 pub mod ReplyTree
-pub mod DumpFile
 pub mod Causes
+pub mod DumpFile

@@ -8,7 +8,7 @@ use Rattle.asm_syntax.specs.declared.operations.AluImmOp.{AluImmOp}
 use Rattle.asm_syntax.specs.declared.operations.AluImmOp.TheVariants.{Addi, Addis}
 use Rattle.asm_syntax.specs.declared.operations.CmpImmOp.{CmpImmOp}
 use Rattle.asm_syntax.specs.declared.operations.CmpImmOp.TheVariants.{Cmpwi, Cmplwi}
-use Rattle.asm_syntax.specs.declared.limits.TheConstants.{MOST_LABELS}
+use Rattle.limits.specs.declared.TheConstants.{MOST_LABELS}
 use Rattle.json_tree.specs.declared.fault.Cause.TheVariants.{OutOfRange}
 use Rattle.json_tree.specs.declared.fault.Fault.{Fault}
 use Rattle.json_tree.specs.Reading.{◌>>=◌, ◌>>◌, fail, name, word_of}

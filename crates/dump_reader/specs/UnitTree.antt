@@ -1,9 +1,7 @@
 -- The grammar of units.
-use Rattle.std.specs.Prelude.{◌≡◌, ℕ, ◌^◌, List, [], ◌∷◌, map, is_some, Option, Some, None, Result, Ok, Err, codes, if◌then◌else◌, IsTrue, ⊤}
+use Rattle.std.specs.Prelude.{◌≡◌, ℕ, ◌^◌, Bool, true, false, List, [], ◌∷◌, map, is_some, Option, Some, None, Result, Ok, codes, if◌then◌else◌, IsTrue, ⊤}
 use Rattle.ordered_tests.specs.Checks.{first_fault}
 use Rattle.serde_json.specs.Data.{Data}
-use Rattle.hex.specs.Hex.{decode_of}
-use Rattle.hex.specs.declared.error.FromHexError.{FromHexError}
 use Rattle.asm_syntax.specs.declared.path.Step.TheVariants.{Key, Index}
 use Rattle.asm_syntax.specs.declared.instr.Function.{Function}
 use Rattle.asm_syntax.specs.declared.unit.Init.{Init}
@@ -11,20 +9,23 @@ use Rattle.asm_syntax.specs.declared.unit.Init.TheVariants as Inits
 use Rattle.asm_syntax.specs.declared.unit.Variable.{Variable}
 use Rattle.asm_syntax.specs.declared.unit.Width.{Width}
 use Rattle.asm_syntax.specs.declared.unit.Width.TheVariants.{Word, Long}
+use Rattle.asm_syntax.specs.declared.unit.Size.{Size}
+use Rattle.asm_syntax.specs.declared.unit.Size.TheVariants as Sizes
+use Rattle.asm_syntax.specs.declared.unit.Buffer.{Buffer}
 use Rattle.asm_syntax.specs.declared.unit.Sig.{Sig}
 use Rattle.asm_syntax.specs.declared.unit.External.{External}
 use Rattle.asm_syntax.specs.declared.unit.Unit.{Unit}
 use Rattle.asm_syntax.specs.declared.shape.ShapeError.{ShapeError}
 use Rattle.asm_syntax.specs.declared.shape.ShapeError.TheVariants.{Empty}
-use Rattle.asm_syntax.specs.declared.limits.TheConstants.{MOST_FUNCTIONS, MOST_VARIABLES, MOST_EXTERNALS, MOST_INSTRUCTIONS, MOST_INIT_ITEMS, MOST_VARIABLE_BYTES}
+use Rattle.limits.specs.declared.TheConstants.{MOST_FUNCTIONS, MOST_VARIABLES, MOST_EXTERNALS, MOST_INSTRUCTIONS, MOST_INIT_ITEMS, MOST_VARIABLE_BYTES, MOST_BUFFERS, MOST_BUFFER_BYTES}
 use Rattle.asm_shapes.specs.Shapes.{function_tests}
-use Rattle.asm_shapes.specs.Signatures.{sig_tests}
+use Rattle.asm_shapes.specs.Signatures.{argument_tests, buffer_tests}
 use Rattle.asm_syntax.specs.ShapeFaults.{shape_place}
 use Rattle.asm_syntax.specs.Sizes.{limited_size}
 use Rattle.asm_shapes.specs.Units.{function_name, variable_name, external_name, is_alignment, unit_fits}
 use Rattle.json_tree.specs.declared.fault.Cause.TheVariants.{OutOfRange, Limit, Shape}
 use Rattle.json_tree.specs.declared.fault.Fault.{Fault}
-use Rattle.json_tree.specs.Reading.{◌>>=◌, ◌>>◌, fail, under, field, object, boolean, text, name, or_null, word_of}
+use Rattle.json_tree.specs.Reading.{◌>>=◌, ◌>>◌, fail, under, field, object, boolean, name, or_null, word_of}
 use Rattle.json_tree.specs.Arrays.{items, list, counted, nth, chosen}
 use Rattle.json_tree.specs.Numbers.{natural, wrapped, word, signed32}
 use Rattle.json_tree.specs.NewNames.{new_name, named_list, with_names}
@@ -32,7 +33,11 @@ use Rattle.json_tree.specs.Profile.{header}
 use Rattle.dump_reader.specs.declared.init.InitForm.{InitForm}
 use Rattle.dump_reader.specs.declared.init.InitForm.TheVariants as InitForms
 use Rattle.dump_reader.specs.declared.external.TheConstants.{MOST_INDEXED}
+use Rattle.dump_reader.specs.declared.profile.TheConstants.{NEWEST}
 use Rattle.dump_reader.specs.Words.{allowed_word}
+use Rattle.dump_reader.specs.Digits.{digits}
+use Rattle.dump_reader.specs.Versions.{has_buffers}
+use Rattle.dump_reader.specs.Operands.{is_array}
 use Rattle.dump_reader.specs.Instructions.{instr}
 
 -- ---- functions
@@ -66,16 +71,6 @@ init_words =
     ∷ (codes "f64", None)
     ∷ (codes "i64", None)
     ∷ []
-
-abbrev pub if_decoded : Result (List ℕ) FromHexError → Result (List ℕ) Fault
-if_decoded (Ok bytes) = Ok bytes
-if_decoded (Err e) = fail OutOfRange
-
--- an even number of hexadecimal digits of both cases, two for each byte, the high four bits first
-unfoldable pub digits : Data → Result (List ℕ) Fault
-digits d = do
-  s ← text d
-  if_decoded (decode_of s)
 
 unfoldable pub int8 : List Data → Result Init Fault
 int8 ds = do
@@ -166,21 +161,69 @@ well_passed (Some e) = fail (Shape e)
 unfoldable pub arguments : Data → Result (List Width) Fault
 arguments d = do
   ws ← list MOST_INDEXED (word_of widths) d
-  well_passed (first_fault (sig_tests ws))
+  well_passed (first_fault (argument_tests ws))
   Ok ws
 
-unfoldable pub signature : Data → Result Sig Fault
-signature d = do
+-- what an external does with a buffer: it reads it, or fills it
+abbrev pub buffer_words : List (List ℕ × Bool)
+buffer_words = (codes "in", false) ∷ (codes "out", true) ∷ []
+
+abbrev pub size_words : List (List ℕ × ⊤)
+size_words = (codes "arg", tt) ∷ []
+
+-- the place of an argument
+abbrev pub argument_place : Data → Result ℕ Fault
+argument_place = natural 255
+
+unfoldable pub argument_size : Data → Result Size Fault
+argument_size d = do
+  ds ← items d
+  chosen (word_of size_words) ds
+  counted 2 ds
+  n ← nth 1 argument_place ds
+  Ok (Sizes.Arg n)
+
+unfoldable pub fixed_size : Data → Result Size Fault
+fixed_size d = do
+  n ← natural MOST_BUFFER_BYTES d
+  Ok (Sizes.Fixed n)
+
+unfoldable pub buffer_size : Data → Result Size Fault
+buffer_size d = if is_array d then argument_size d else fixed_size d
+
+unfoldable pub buffer : Data → Result Buffer Fault
+buffer d = do
+  ds ← items d
+  w ← chosen (word_of buffer_words) ds
+  counted 3 ds
+  a ← nth 1 argument_place ds
+  s ← nth 2 buffer_size ds
+  Ok (record { fills = w; arg = a; size = s })
+
+-- a version that has no buffers passes the key over
+unfoldable pub buffers : Bool → Data → Result (List Buffer) Fault
+buffers true d = field (codes "buffers") (list MOST_BUFFERS buffer) d
+buffers false d = Ok []
+
+-- a buffer is refused at its place, when all are read
+abbrev pub well_buffered : Option ShapeError → Result ⊤ Fault
+well_buffered None = Ok tt
+well_buffered (Some e) = under (Key (codes "buffers")) (under (Index (shape_place e)) (fail (Shape e)))
+
+unfoldable pub signature : Bool → Data → Result Sig Fault
+signature buffered d = do
   object d
   a ← field (codes "args") arguments d
   r ← field (codes "result") (word_of results) d
-  Ok (record { args = a; result = r })
+  b ← buffers buffered d
+  well_buffered (first_fault (buffer_tests a b))
+  Ok (record { args = a; result = r; buffers = b })
 
-unfoldable pub external : List (List ℕ) → Data → Result External Fault
-external taken d = do
+unfoldable pub external : Bool → List (List ℕ) → Data → Result External Fault
+external buffered taken d = do
   object d
   n ← field (codes "name") (new_name taken) d
-  s ← field (codes "sig") (or_null signature) d
+  s ← field (codes "sig") (or_null (signature buffered)) d
   Ok (record { name = n; sig = s })
 
 -- ---- the whole. A name is new where no earlier function, variable or external has it
@@ -193,11 +236,11 @@ taken_by_both functions variables = with_names (taken_by_functions functions) (m
 
 unfoldable pub unit : Data → Result Unit Fault
 unit d = do
-  header (codes "unit") 1 d
+  version ← header (codes "unit") NEWEST d
   n ← field (codes "unit") name d
   fs ← field (codes "functions") (named_list function_name function [] MOST_FUNCTIONS) d
   vs ← field (codes "variables") (named_list variable_name variable (taken_by_functions fs) MOST_VARIABLES) d
-  es ← field (codes "externals") (named_list external_name external (taken_by_both fs vs) MOST_EXTERNALS) d
+  es ← field (codes "externals") (named_list external_name (external (has_buffers version)) (taken_by_both fs vs) MOST_EXTERNALS) d
   Ok (record { name = n; functions = fs; variables = vs; externals = es })
 
 abbrev pub UnitTree : Data → Unit → Type 0

@@ -1,25 +1,54 @@
 //! Compilation units.
 
-ghost use Rattle.std.specs.Prelude.{◌≡◌};
-ghost use Rattle.dump_reader.specs.UnitTree.{unit};
+ghost use Rattle.std.specs.Prelude.{◌≡◌, codes};
+ghost use Rattle.serde_json.specs.View.{view};
+ghost use Rattle.asm_shapes.specs.Units.{external_name};
+ghost use Rattle.json_tree.specs.Answers.{Gives};
+ghost use Rattle.json_tree.specs.NewNames.{named_list};
+ghost use Rattle.json_tree.specs.Reading.{field};
+ghost use Rattle.dump_reader.specs.Versions.{has_buffers};
+ghost use Rattle.dump_reader.specs.UnitTree.{external, unit};
 
-use crate::profile::Dump;
+use crate::profile::{Dump, NEWEST, WithBuffers, WithoutBuffers};
 use asm_syntax::instr::Function;
-use asm_syntax::limits::{MOST_EXTERNALS, MOST_FUNCTIONS, MOST_VARIABLES};
-use asm_syntax::unit::{External, Unit, Variable};
+use asm_syntax::unit::{External, ExternalList, Unit, Variable};
 use json_tree::fault::ReadError;
 use json_tree::profile::header;
 use json_tree::taken::{Taken, named_list_field};
 use json_tree::tree::{Reads, field};
+use limits::{MOST_EXTERNALS, MOST_FUNCTIONS, MOST_VARIABLES};
 use serde_json::Value;
 use std::alloc::Global;
+
+/// The externals, as the version of the unit has them.
+fn externals(
+    alloc: Global,
+    taken: &mut Taken,
+    tree: &Value,
+    version: u32,
+) -> Result<ExternalList, ReadError>
+    ensures { Gives result (field (codes "externals")
+        (named_list external_name (external (has_buffers version)) taken.old MOST_EXTERNALS) (view tree.now)) }
+{
+    if version >= 2 {
+        named_list_field::<WithBuffers, External>(alloc, taken, tree, "externals", MOST_EXTERNALS)
+    } else {
+        named_list_field::<WithoutBuffers, External>(
+            alloc,
+            taken,
+            tree,
+            "externals",
+            MOST_EXTERNALS,
+        )
+    }
+}
 
 #[tactic(auto, unfolding(crate::specs::UnitTree::unit))]
 impl Reads<Unit> for Dump {
     ghost reads = { unit };
 
     fn read(alloc: Global, tree: &Value) -> Result<Unit, ReadError> {
-        header(alloc, tree, "unit", 1)?;
+        let version = header(alloc, tree, "unit", NEWEST)?;
         let name = field(alloc, tree, "unit")?;
         let mut taken = Taken::new(alloc);
         let functions = named_list_field::<Dump, Function>(
@@ -36,13 +65,7 @@ impl Reads<Unit> for Dump {
             "variables",
             MOST_VARIABLES,
         )?;
-        let externals = named_list_field::<Dump, External>(
-            alloc,
-            &mut taken,
-            tree,
-            "externals",
-            MOST_EXTERNALS,
-        )?;
+        let externals = externals(alloc, &mut taken, tree, version)?;
         Ok(Unit {
             name,
             functions,

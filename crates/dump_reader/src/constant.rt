@@ -1,20 +1,19 @@
 //! Constants.
 
-ghost use Rattle.std.specs.Prelude.{◌≡◌, ◌<◌, length, map, OnOk};
+ghost use Rattle.std.specs.Prelude.{◌≡◌, ◌<◌, length, map};
 ghost use Rattle.serde_json.specs.View.{view};
 ghost use Rattle.json_tree.specs.Answers.{Gives};
-ghost use Rattle.json_tree.specs.Reading.{word_of};
-ghost use Rattle.json_tree.specs.Arrays.{nth, chosen};
+ghost use Rattle.json_tree.specs.Arrays.{nth};
 ghost use Rattle.json_tree.specs.Tables.{row};
 ghost use Rattle.dump_reader.specs.Operands.{part_of, symbolic, short, constant, alu_constant, displacement};
 
+use crate::words::chosen_word;
 use asm_syntax::instr::Const;
 use asm_syntax::name::Name;
 use asm_syntax::operations::AluImmOp;
 use json_tree::array::{counted, items, nth};
-use json_tree::fault::{Cause, ReadError};
+use json_tree::fault::ReadError;
 use json_tree::number::ranged;
-use json_tree::text::word_of;
 use json_tree::tree::at_index;
 use serde_json::Value;
 use std::alloc::Global;
@@ -33,17 +32,6 @@ static LOW_PARTS: [(&str, Part); 2] = [("lo", Part::Lo), ("sda", Part::Sda)];
 /// Of addis.
 static HIGH_PARTS: [(&str, Part); 1] = [("ha", Part::Ha)];
 
-#[tactic(auto, unfolding(json_tree::specs::Arrays::chosen, json_tree::specs::Arrays::nth), using(json_tree::proofs::Items::array_tools))]
-fn chosen_part(alloc: Global, values: &[Value], taken: &[(&str, Part)]) -> Result<Part, ReadError>
-    ensures gives { Gives result (chosen (word_of (map row taken.now)) (map view values.now)) }
-    ensures some { OnOk result (0 < length values.now) }
-{
-    if values.is_empty() {
-        return Err(ReadError::here(alloc, Cause::OutOfRange));
-    }
-    at_index(alloc, 0, word_of(alloc, &values[0], taken))
-}
-
 fn part_of(part: Part, symbol: Name, offset: i32) -> Const
     ensures { result ≡ part_of part symbol offset }
 {
@@ -59,7 +47,7 @@ fn symbolic(alloc: Global, tree: &Value, taken: &[(&str, Part)]) -> Result<Const
     ensures { Gives result (symbolic (map row taken.now) (view tree.now)) }
 {
     let values = items(alloc, tree)?;
-    let part = chosen_part(alloc, values, taken)?;
+    let part = chosen_word(alloc, values, taken)?;
     counted(alloc, values, 3)?;
     let symbol = nth(alloc, values, 1)?;
     let offset = nth(alloc, values, 2)?;

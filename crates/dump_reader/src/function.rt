@@ -12,34 +12,23 @@ ghost use Rattle.json_tree.specs.declared.fault.Cause.TheVariants.{Shape};
 ghost use Rattle.dump_reader.specs.UnitTree.{function, well_shaped};
 
 use crate::profile::Dump;
+use crate::shape::{misshapen, misshapen_at};
 use asm_shapes::function_fault;
 use asm_syntax::instr::{Function, Instr};
-use asm_syntax::limits::MOST_INSTRUCTIONS;
 use asm_syntax::shape::ShapeError;
 use json_tree::array::list_field_by;
-use json_tree::fault::{Cause, ReadError};
+use json_tree::fault::ReadError;
 use json_tree::taken::{ReadsNamed, Taken, new_name_field};
-use json_tree::tree::{at_index, at_key, field, object};
+use json_tree::tree::{at_key, field, object};
+use limits::MOST_INSTRUCTIONS;
 use serde_json::Value;
 use std::alloc::Global;
-
-fn misshapen(alloc: Global, error: ShapeError) -> Result<(), ReadError>
-    ensures { Gives result (fail (Shape error)) }
-{
-    Err(ReadError::here(alloc, Cause::Shape(error)))
-}
-
-fn at_instruction(alloc: Global, error: ShapeError) -> Result<(), ReadError>
-    ensures { Gives result (under (Index (shape_place error)) (fail (Shape error))) }
-{
-    at_index(alloc, error.place(), misshapen(alloc, error))
-}
 
 fn in_code(alloc: Global, error: ShapeError) -> Result<(), ReadError>
     ensures { Gives result
         (under (Key (codes "code")) (under (Index (shape_place error)) (fail (Shape error)))) }
 {
-    at_key(alloc, "code", at_instruction(alloc, error))
+    at_key(alloc, "code", misshapen_at(alloc, error))
 }
 
 /// A function with no words is refused as a whole, any other fault at its instruction.

@@ -4,11 +4,11 @@ ghost use Rattle.std.specs.Prelude.{◌≡◌, map};
 ghost use Rattle.serde_json.specs.View.{view};
 ghost use Rattle.json_tree.specs.Answers.{Gives};
 ghost use Rattle.dump_reader.specs.Words.{allowed_word};
-ghost use Rattle.dump_reader.specs.UnitTree.{init_words, digits, int8, int16, int32, bytes, space, addr, init_operands, init, contents};
+ghost use Rattle.dump_reader.specs.Digits.{digits};
+ghost use Rattle.dump_reader.specs.UnitTree.{init_words, int8, int16, int32, bytes, space, addr, init_operands, init, contents};
 
 use crate::profile::Dump;
 use crate::words::allowed_word;
-use asm_syntax::limits::{MOST_INIT_ITEMS, MOST_VARIABLE_BYTES};
 use asm_syntax::listed::Listed;
 use asm_syntax::unit::{ByteList, Init, InitList, variable_size};
 use hex::FromHexError;
@@ -17,6 +17,7 @@ use json_tree::fault::{Cause, ReadError};
 use json_tree::number::{Word, natural_at, wrapped_at};
 use json_tree::text::text;
 use json_tree::tree::Reads;
+use limits::{MOST_INIT_ITEMS, MOST_VARIABLE_BYTES};
 use serde_json::Value;
 use std::alloc::Global;
 
@@ -53,7 +54,7 @@ impl Reads<InitForm> for Dump {
 }
 
 /// Bytes as hexadecimal digits of both cases, two for each.
-#[tactic(auto, unfolding(crate::specs::UnitTree::digits))]
+#[tactic(auto, unfolding(crate::specs::Digits::digits))]
 impl Reads<ByteList> for Dump {
     ghost reads = { digits };
 

@@ -4,6 +4,7 @@
 #![tactic(auto)]
 
 mod branch;
+mod buffer;
 mod compilation;
 mod constant;
 mod error;
@@ -17,6 +18,9 @@ mod profile;
 mod pseudo;
 mod read;
 mod reply;
+#[cfg(test)]
+mod rows;
+mod shape;
 #[cfg(test)]
 mod tests;
 mod variable;

@@ -9,7 +9,6 @@ ghost use Rattle.dump_reader.specs.Operands.{register, bit_number, cr_field, lab
 
 use crate::profile::Dump;
 use asm_syntax::instr::Labels;
-use asm_syntax::limits::MOST_LABELS;
 use asm_syntax::name::Name;
 use asm_syntax::operations::CmpImmOp;
 use asm_syntax::reg::Reg;
@@ -17,6 +16,7 @@ use json_tree::array::{counted, items, list, nth, nth_by};
 use json_tree::fault::{Cause, ReadError};
 use json_tree::number::{natural, natural_at, ranged};
 use json_tree::tree::{Reads, at_index};
+use limits::MOST_LABELS;
 use serde_json::Value;
 use std::alloc::Global;
 

@@ -1,4 +1,13 @@
-//! The profile of dumps.
+//! The profile of dumps and its versions.
 
-/// What knows how each type of a unit, and each reply, is read.
+/// The newest version that is read.
+pub const NEWEST: u32 = 2;
+
+/// What knows how each type of a unit is read that is the same in all versions.
 pub struct Dump;
+
+/// Version 1: no buffers.
+pub struct WithoutBuffers;
+
+/// Version 2: signatures have buffers, and replies fill them.
+pub struct WithBuffers;

@@ -1,13 +1,16 @@
-//! Words of which some are refused.
+//! Words that choose, and words of which some are refused.
 
-ghost use Rattle.std.specs.Prelude.{◌≡◌, map};
+ghost use Rattle.std.specs.Prelude.{◌≡◌, ◌<◌, length, map, OnOk};
 ghost use Rattle.serde_json.specs.View.{view};
 ghost use Rattle.json_tree.specs.Answers.{Gives};
+ghost use Rattle.json_tree.specs.Arrays.{chosen};
+ghost use Rattle.json_tree.specs.Reading.{word_of};
 ghost use Rattle.json_tree.specs.Tables.{row};
 ghost use Rattle.dump_reader.specs.Words.{allowed_word};
 
 use json_tree::fault::{Cause, ReadError};
 use json_tree::text::word_of;
+use json_tree::tree::at_index;
 use serde_json::Value;
 use std::alloc::Global;
 
@@ -24,4 +27,20 @@ pub fn allowed_word<T: Copy>(
         Some(meaning) => Ok(meaning),
         None => Err(ReadError::here(alloc, Cause::Refused)),
     }
+}
+
+/// What the first item chooses, a text of a table. An empty array is out of range.
+#[tactic(auto, unfolding(json_tree::specs::Arrays::chosen, json_tree::specs::Arrays::nth), using(json_tree::proofs::Items::array_tools))]
+pub fn chosen_word<T: Copy>(
+    alloc: Global,
+    values: &[Value],
+    table: &[(&str, T)],
+) -> Result<T, ReadError>
+    ensures gives { Gives result (chosen (word_of (map row table.now)) (map view values.now)) }
+    ensures some { OnOk result (0 < length values.now) }
+{
+    if values.is_empty() {
+        return Err(ReadError::here(alloc, Cause::OutOfRange));
+    }
+    at_index(alloc, 0, word_of(alloc, &values[0], table))
 }

@@ -2,9 +2,9 @@
 
 ghost use Rattle.std.specs.Prelude.{◌≡◌, [], ◌∷◌, IfOk};
 ghost use Rattle.serde_json.specs.View.{view};
-ghost use Rattle.dump_trees.specs.Trees.{unsigned_data, signed_data};
+ghost use Rattle.dump_model.specs.Trees.{unsigned_data, signed_data};
 ghost use Rattle.dump_writer.specs.Rows.{row_items};
-ghost use Rattle.dump_trees.specs.InstructionTree.{
+ghost use Rattle.dump_model.specs.InstructionTree.{
   const_data,
   instr_data,
   instr_items,

@@ -1,14 +1,16 @@
 //! Compilation units, written as JSON texts.
 #![tactic(auto)]
 
+mod external;
 mod instr;
 mod spelling;
 #[cfg(test)]
 mod tests;
 mod tree;
+mod types;
 mod unit;
-mod valid;
 mod write;
 
-pub use valid::valid_unit;
-pub use write::{unit_value, write_unit, written_units_read_back};
+pub use write::{
+    unit_value, unit_value_2, valid_unit, write_unit, write_unit_2, written_units_read_back,
+};

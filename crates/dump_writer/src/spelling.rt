@@ -1,7 +1,7 @@
 //! The spellings of instructions.
 
 ghost use Rattle.std.specs.Prelude.{◌≡◌};
-ghost use Rattle.dump_trees.specs.Spellings.{spelling};
+ghost use Rattle.dump_model.specs.Spellings.{spelling};
 
 use mnemonics::{Form, mnemonics};
 

@@ -3,7 +3,7 @@
 ghost use Rattle.std.specs.Prelude.{◌≡◌, ℕ, ℤ, List, [], ◌∷◌, ◌++◌, map, IfOk, OnOk};
 ghost use Rattle.serde_json.specs.Data.{Data, string};
 ghost use Rattle.serde_json.specs.View.{view};
-ghost use Rattle.dump_trees.specs.Trees.{unsigned_data, signed_data, array_of, list_data};
+ghost use Rattle.dump_model.specs.Trees.{unsigned_data, signed_data, array_of, list_data};
 ghost use Rattle.dump_writer.specs.Rows.{row_items};
 
 use serde_json::Value;
@@ -17,6 +17,25 @@ pub trait ToTree {
         ensures { IfOk result (λ value. view value ≡ data_of self.now) };
 }
 
+/// A form in which the values of a type are written, for a type that has several.
+pub trait Writes<T> {
+    ghost data_of: { T → Data };
+
+    fn to_tree(alloc: Global, value: &T) -> Result<Value, AllocError>
+        ensures { IfOk result (λ tree. view tree ≡ data_of value.now) };
+}
+
+/// What is written as its own type says.
+pub struct Own;
+
+impl<T: ToTree> Writes<T> for Own {
+    ghost data_of = { T.data_of };
+
+    fn to_tree(alloc: Global, value: &T) -> Result<Value, AllocError> {
+        value.to_tree(alloc)
+    }
+}
+
 impl ToTree for u32 {
     ghost data_of = { unsigned_data };
 
@@ -25,15 +44,22 @@ impl ToTree for u32 {
     }
 }
 
+/// The array of the trees of the items in a form.
+pub fn list_value_by<P: Writes<T>, T>(alloc: Global, items: &[T]) -> Result<Value, AllocError>
+    ensures { IfOk result (λ value. view value ≡ list_data P.data_of items.now) }
+{
+    let mut values = Vec::new(alloc);
+    for item in items {
+        values.push(P::to_tree(alloc, item)?)?;
+    }
+    Ok(Value::Array(values))
+}
+
 /// The array of the trees of the items.
 pub fn list_value<T: ToTree>(alloc: Global, items: &[T]) -> Result<Value, AllocError>
     ensures { IfOk result (λ value. view value ≡ list_data T.data_of items.now) }
 {
-    let mut values = Vec::new(alloc);
-    for item in items {
-        values.push(item.to_tree(alloc)?)?;
-    }
-    Ok(Value::Array(values))
+    list_value_by::<Own, T>(alloc, items)
 }
 
 /// An array that is being built.

@@ -1,30 +1,23 @@
-//! Trees of functions, variables, externals and units.
+//! Trees of functions and variables.
 
-ghost use Rattle.std.specs.Prelude.{◌≡◌, IfOk, IsTrue, codes, option_map};
+ghost use Rattle.std.specs.Prelude.{◌≡◌, IfOk, codes};
 ghost use Rattle.serde_json.specs.View.{view};
 ghost use Rattle.dump_writer.specs.Rows.{row_items};
-ghost use Rattle.dump_trees.specs.Trees.{list_data};
-ghost use Rattle.dump_trees.specs.UnitTree.{
+ghost use Rattle.dump_model.specs.Trees.{list_data};
+ghost use Rattle.dump_model.specs.UnitTree.{
   address_items,
   bytes_items,
-  external_data,
   function_data,
   init_data,
   init_items,
   number_items,
-  optional_data,
-  result_word,
-  sig_data,
-  unit_data,
   variable_data,
-  width_data,
-  width_word,
 };
 
 use crate::tree::{Row, ToTree, list_value};
 use asm_syntax::instr::Function;
 use asm_syntax::name::Name;
-use asm_syntax::unit::{External, Init, Sig, Unit, Variable, Width};
+use asm_syntax::unit::{Init, Variable};
 use serde_json::{Value, json};
 use std::alloc::{AllocError, Global};
 
@@ -97,56 +90,5 @@ impl ToTree for Variable {
             "align": self.align,
             "init": init,
         })
-    }
-}
-
-fn width_word(width: Width) -> &'static str
-    ensures { result.now ≡ width_word width }
-{
-    match width {
-        Width::Word => "w",
-        Width::Long => "l",
-    }
-}
-
-fn result_word(returned: Option<Width>) -> &'static str
-    ensures { result.now ≡ result_word returned }
-{
-    match returned {
-        Some(width) => width_word(width),
-        None => "none",
-    }
-}
-
-impl ToTree for Width {
-    ghost data_of = { width_data };
-
-    fn to_tree(&self, alloc: Global) -> Result<Value, AllocError> {
-        Value::try_from_str(alloc, width_word(*self))
-    }
-}
-
-fn sig_value(alloc: Global, sig: &Sig) -> Result<Value, AllocError>
-    ensures { IfOk result (λ value. view value ≡ sig_data sig.now) }
-{
-    let args = list_value(alloc, sig.args.items())?;
-    json!(in alloc; {"args": args, "result": result_word(sig.result)})
-}
-
-fn optional_value(alloc: Global, sig: &Option<Sig>) -> Result<Value, AllocError>
-    ensures { IfOk result (λ value. view value ≡ optional_data sig.now) }
-{
-    match sig {
-        Some(sig) => sig_value(alloc, sig),
-        None => Ok(Value::Null),
-    }
-}
-
-impl ToTree for External {
-    ghost data_of = { external_data };
-
-    fn to_tree(&self, alloc: Global) -> Result<Value, AllocError> {
-        let sig = optional_value(alloc, &self.sig)?;
-        json!(in alloc; {"name": self.name.text(), "sig": sig})
     }
 }

@@ -6,3 +6,4 @@ pub mod Segments
 pub mod Texts
 pub mod Facts
 pub mod LentLemmas
+pub mod ByAddressLemmas

@@ -1,7 +1,8 @@
 -- What tests that pass tell of the places that are read.
 use Rattle.std.specs.Prelude.{◌≡◌, ◌≤◌, ◌<◌, ℕ, ◌+◌, ◌*◌, ◌/◌, true, List, length, None}
 use Rattle.ordered_tests.specs.Checks.{first_fault}
-use Rattle.image_model.specs.declared.limits.TheConstants.{MOST_IMAGE_BYTES}
+use Rattle.limits.specs.declared.TheConstants.{MOST_IMAGE_BYTES}
+use Rattle.image_model.specs.Bytes.{AreBytes}
 use Rattle.image_model.specs.FileHeader.{e_phoff, e_phnum, e_shoff, e_shnum}
 use Rattle.image_model.specs.ProgramHeader.{program_header, is_load}
 use Rattle.image_model.specs.SectionHeader.{sh_offset, sh_size, sh_link, symtab, strtab, section_bytes}
@@ -26,6 +27,7 @@ pub record AreTablesPlaced (b : List ℕ) : Type 0 where
 
 -- the tests pass, and all that a view reads lies in the file
 pub record IsReadable (b : List ℕ) : Type 0 where
+  pub bytes : AreBytes b
   pub passes : first_fault (elf_tests b) ≡ None
   pub headed : IsHeaded b
   pub ranges : (i : ℕ) → i < e_phnum b → is_load b (program_header b i) ≡ true → has_range b (program_header b i) ≡ true

@@ -10,7 +10,8 @@ use Rattle.image_model.specs.Tests.{IsElf}
 -- the p_filesz bytes at p_offset of loaded header i
 abbrev pub IsPartOfSegment : Image → ℕ → List ℕ → Type 0
 IsPartOfSegment v i bytes =
-    (b : List ℕ) → IsElf b v → bytes ≡ part b (p_offset b (slice_index (loaded_headers b) i)) (p_filesz b (slice_index (loaded_headers b) i))
+    (b : List ℕ) → IsElf b v → bytes ≡ part b (p_offset b (slice_index (loaded_headers b) i)) (p_filesz b (slice_index
+    (loaded_headers b) i))
 
 -- bytes at st_name of symbol i in the string table
 abbrev pub IsPartOfTexts : Image → ℕ → List ℕ → Type 0

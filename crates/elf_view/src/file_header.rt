@@ -2,14 +2,14 @@
 ghost use Rattle.std.specs.Prelude.{◌≡◌, ◌≤◌, ◌<◌, ◌+◌, ◌*◌, length, OnOk, IfErr};
 ghost use Rattle.ordered_tests.specs.Checks.{first_fault, fault_of};
 ghost use Rattle.image_model.specs.FileHeader.{e_phoff, e_phnum, e_shoff, e_shnum};
-ghost use Rattle.image_model.specs.declared.limits.TheConstants.{MOST_IMAGE_BYTES};
-ghost use Rattle.image_model.specs.Offsets.{offset_of};
+ghost use Rattle.limits.specs.declared.TheConstants.{MOST_IMAGE_BYTES};
+ghost use Rattle.image_model.specs.Errors.{offset_of};
 ghost use Rattle.image_model.specs.Tests.{size_tests, ident_tests, kind_tests, place_tests, header_tests};
 ghost use Rattle.elf_view.specs.Facts.{ArePlaced, IsHeaded};
 
 use crate::bytes::{half_at, lies_in, word_at};
 use image_model::error::ElfError;
-use image_model::limits::{MOST_IMAGE_BYTES, MOST_PROGRAM_HEADERS};
+use limits::{MOST_IMAGE_BYTES, MOST_PROGRAM_HEADERS};
 
 const FILE_HEADER_SIZE: usize = 52;
 

@@ -2,9 +2,9 @@
 ghost use Rattle.std.specs.Prelude.{◌≡◌, ◌≤◌, ◌<◌, ◌+◌, ◌*◌, ℕ, length, OnOk, IfOk, IfErr};
 ghost use Rattle.std.specs.List.{list_all};
 ghost use Rattle.ordered_tests.specs.Checks.{first_fault, fault_of};
-ghost use Rattle.image_model.specs.declared.limits.TheConstants.{MOST_LOADED_BYTES};
+ghost use Rattle.limits.specs.declared.TheConstants.{MOST_LOADED_BYTES};
 ghost use Rattle.image_model.specs.FileHeader.{e_phnum};
-ghost use Rattle.image_model.specs.Offsets.{offset_of};
+ghost use Rattle.image_model.specs.Errors.{offset_of};
 ghost use Rattle.image_model.specs.ProgramHeader.{p_offset, p_vaddr, p_filesz, p_memsz, p_flags, program_header, is_load, loads_before};
 ghost use Rattle.image_model.specs.Tests.{has_range, are_apart, total_memsz, numbered_segment_tests, segments_tests};
 ghost use Rattle.elf_view.specs.Facts.{IsHeaded};
@@ -12,7 +12,7 @@ ghost use Rattle.elf_view.specs.Facts.{IsHeaded};
 use crate::bytes::{lies_in, word_at};
 use crate::file_header::{e_phnum, e_phoff};
 use image_model::error::ElfError;
-use image_model::limits::MOST_LOADED_BYTES;
+use limits::MOST_LOADED_BYTES;
 
 const PT_LOAD: u32 = 1;
 
@@ -113,7 +113,7 @@ fn is_apart_from_earlier(b: &[u8], i: usize, at: usize) -> bool
 }
 
 /// The tests of header `i`. `loaded` is the size in memory of the PT_LOAD headers before it, and the answer with it.
-#[tactic(auto, using(crate::proofs::ProgramHeaders::total_more))]
+#[tactic(auto, using(image_model::proofs::Loads::total_more))]
 fn check_segment(b: &[u8], i: usize, loaded: u64) -> Result<u64, ElfError>
     requires headed { IsHeaded b.now }
     requires within { i < e_phnum b.now }

@@ -2,7 +2,7 @@
 ghost use Rattle.std.specs.Prelude.{◌≡◌, ◌≤◌, ◌<◌, ◌+◌, ◌*◌, ℕ, length, [], ◌∷◌, IfNone, IfSome, IfOk, IfErr};
 ghost use Rattle.ordered_tests.specs.Checks.{first_fault, fault_of};
 ghost use Rattle.image_model.specs.FileHeader.{e_shnum};
-ghost use Rattle.image_model.specs.Offsets.{offset_of};
+ghost use Rattle.image_model.specs.Errors.{offset_of};
 ghost use Rattle.image_model.specs.SectionHeader.{section_header, sh_type, sh_offset, sh_size, sh_link, sh_entsize, symtab};
 ghost use Rattle.image_model.specs.Tests.{symtab_tests};
 ghost use Rattle.elf_view.specs.Facts.{IsHeaded};

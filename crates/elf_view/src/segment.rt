@@ -1,13 +1,13 @@
 // The segments that are loaded, in the order of their headers. System V gABI, "Program Header", "Program Loading".
-ghost use Rattle.std.specs.Prelude.{◌≡◌, ◌≤◌, ◌<◌, ◌+◌, ◌*◌, ◌-◌, ℕ, length, slice_get, ◌∷◌, Some, IfNone, IfSome, option_map, find};
+ghost use Rattle.std.specs.Prelude.{◌≡◌, ◌≤◌, ◌<◌, ◌+◌, ◌*◌, ◌-◌, ℕ, length, slice_get, ◌∷◌, Some, IsTrue, ◌↔◌, IfNone, IfSome, option_map, find};
 ghost use Rattle.image_model.specs.FileHeader.{e_phnum};
 ghost use Rattle.image_model.specs.Image.{segments_of};
-ghost use Rattle.image_model.specs.Loaded.{covers, segment_byte, holds_range, HasRange};
+ghost use Rattle.image_model.specs.Loaded.{covers, segment_byte, segment_word, holds_range, HasRange};
 ghost use Rattle.elf_view.specs.Facts.{IsReadable};
 ghost use Rattle.elf_view.specs.Left.{segments_from};
 ghost use Rattle.elf_view.specs.Views.{segment_seen};
 
-use crate::bytes::part;
+use crate::bytes::{part, word_at};
 use crate::file_header::e_phnum;
 use crate::program_header::{
     is_load, p_filesz, p_flags, p_memsz, p_offset, p_vaddr, program_header,
@@ -24,7 +24,7 @@ pub struct SegView<'a> {
 
 impl<'a> SegView<'a> {
     /// Whether an address is in the segment.
-    fn covers(&self, a: u64) -> bool
+    pub fn covers(&self, a: u64) -> bool
         ensures { result ≡ covers a (segment_seen self.now) }
     {
         let start = u64::from(self.vaddr);
@@ -40,15 +40,45 @@ impl<'a> SegView<'a> {
         start <= lo && hi <= start + self.bytes.len() as u64
     }
 
-    /// The byte at a place in the segment.
-    pub fn byte(&self, i: usize) -> u8
+    /// Whether the four bytes from an address on, of which the segment has the first, are all in it.
+    pub fn has_word(&self, a: u32) -> bool
+        ensures { IsTrue result ↔ (a + 4 ≤ self.now.vaddr + self.now.memsz) }
+    {
+        u64::from(a) + 4 <= u64::from(self.vaddr) + u64::from(self.memsz)
+    }
+
+    fn byte_from(&self, i: u64) -> u8
         ensures { result ≡ segment_byte (segment_seen self.now) i }
     {
-        if i < self.bytes.len() {
-            self.bytes[i]
+        if i < self.bytes.len() as u64 {
+            self.bytes[i as usize]
         } else {
             0
         }
+    }
+
+    /// The byte at a place in the segment, zero fill included.
+    pub fn byte(&self, i: u32) -> u8
+        ensures { result ≡ segment_byte (segment_seen self.now) i }
+    {
+        self.byte_from(u64::from(i))
+    }
+
+    /// The big-endian word of the four bytes from a place in the segment on, zero fill included.
+    #[tactic(auto, unfolding(image_model::specs::Bytes::word, image_model::specs::Bytes::half))]
+    pub fn word(&self, i: u32) -> u32
+        ensures { result ≡ segment_word (segment_seen self.now) i }
+    {
+        if i as usize + 4 <= self.bytes.len() {
+            return word_at(self.bytes, i as usize);
+        }
+        let i = u64::from(i);
+        u32::from_be_bytes([
+            self.byte_from(i),
+            self.byte_from(i + 1),
+            self.byte_from(i + 2),
+            self.byte_from(i + 3),
+        ])
     }
 }
 

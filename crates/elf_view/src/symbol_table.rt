@@ -1,7 +1,7 @@
 // The tests of the symbol table and its string table, in their order. System V gABI, "Symbol Table", "String Table".
 ghost use Rattle.std.specs.Prelude.{◌≡◌, ◌≤◌, ◌<◌, ◌+◌, ◌*◌, ◌/◌, ℕ, length, ◌++◌, OnOk, IfOk, IfErr};
 ghost use Rattle.ordered_tests.specs.Checks.{first_fault, fault_of};
-ghost use Rattle.image_model.specs.Offsets.{offset_of};
+ghost use Rattle.image_model.specs.Errors.{offset_of};
 ghost use Rattle.image_model.specs.SectionHeader.{section_header, sh_type, sh_offset, sh_size, sh_link, symtab, strtab};
 ghost use Rattle.image_model.specs.SymbolTable.{symbol_count, symbol_place};
 ghost use Rattle.image_model.specs.Tests.{are_tables_placed, are_texts_ended, has_name, symtab_tests, table_tests, names_tests};

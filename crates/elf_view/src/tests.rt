@@ -1,6 +1,9 @@
 // A small executable, cut off at each length and with changed fields. The fields are those of the gABI's tables.
-use crate::{ElfError, ElfView};
+use crate::{ElfError, ElfView, LoadedSegments};
 use byteorder::{BigEndian, ByteOrder};
+use std::alloc::{AllocError, Global};
+use std::cmp::Ordering;
+use std::test::Fail;
 use word_ops::range::Range;
 
 // One segment of two words, the symbol `main` at their start, and the sections of the symbols and their names.
@@ -109,7 +112,13 @@ fn reads_no_cut_file(rt: HostRuntime) {
 #[test]
 fn reads_no_changed_header(rt: HostRuntime) {
     let rows = [
+        (0, 0x7e45_4c46, ElfError::Ident(0)),
+        (0, 0x7f46_4c46, ElfError::Ident(1)),
+        (0, 0x7f45_4d46, ElfError::Ident(2)),
+        (0, 0x7f45_4c47, ElfError::Ident(3)),
         (4, 0x0202_0100, ElfError::Ident(4)),
+        (4, 0x0101_0100, ElfError::Ident(5)),
+        (4, 0x0102_0200, ElfError::Ident(6)),
         (16, 0x0003_0014, ElfError::Kind(16)),
         (16, 0x0002_0015, ElfError::Machine(18)),
         (40, 0x0035_0020, ElfError::EntrySize(40)),
@@ -127,7 +136,11 @@ fn reads_no_changed_header(rt: HostRuntime) {
         (216, 2, ElfError::TwoSymtabs(212)),
         (208, 17, ElfError::EntrySize(208)),
         (196, 3, ElfError::SymRange(172)),
+        (196, 1, ElfError::SymRange(172)),
         (192, 33, ElfError::SymRange(172)),
+        (188, 240, ElfError::SymRange(172)),
+        (216, 1, ElfError::SymRange(172)),
+        (228, 247, ElfError::SymRange(172)),
         (232, 5, ElfError::NameEnd(212)),
         (116, 6, ElfError::NameEnd(116)),
     ];
@@ -142,12 +155,103 @@ fn reads_no_changed_header(rt: HostRuntime) {
     }
 }
 
-// Two copies of the program header stand behind the file.
+// The word at an address, read in both ways.
+fn words(alloc: Global, view: &ElfView, a: u32) -> Result<(Option<u32>, Option<u32>), AllocError> {
+    let loaded = LoadedSegments::read(alloc, view)?;
+    Ok((view.word_at(a), loaded.word_at(u64::from(a))))
+}
+
+// Two copies of the program header stand behind the file, at 252 and 284. The fields of the second are changed.
 #[test]
-fn reads_no_segments_that_meet(rt: HostRuntime) {
-    let mut file = [0; SIZE + 64];
-    fill(&mut file, &[(28, 252), (44, 0x0002_0028)]);
-    assert_eq!(rt; ElfView::read(&file).err(), Some(ElfError::SegOverlap(284)));
+fn reads_two_segments(rt: HostRuntime) -> Result<(), Fail> {
+    let rows = [
+        // A note, and a segment without a byte in memory.
+        (284, 4, 284, 4, 1, 0x1001_0004, Some(0x4e80_0020)),
+        (300, 0, 304, 0, 1, 0x1001_0004, Some(0x4e80_0020)),
+        // One that begins at the end of the first, and one that ends at its begin.
+        (292, 0x1001_0008, 300, 8, 2, 0x1001_0006, Some(0x0020_3860)),
+        (292, 0x1000_fff8, 300, 8, 2, 0x1000_fffe, Some(0x0020_3860)),
+        // One that ends at 2^32.
+        (292, 0xffff_fff8, 300, 8, 2, 0xffff_fffc, Some(0x4e80_0020)),
+        (292, 0xffff_fff8, 300, 8, 2, 0xffff_fffd, None),
+        // One of 4 bytes that are zero past the third.
+        (292, 0x1001_8000, 300, 3, 2, 0x1001_8000, Some(0x3860_0000)),
+        (292, 0x1001_8000, 300, 3, 2, 0x1001_8002, Some(0)),
+        (292, 0x1001_8000, 300, 3, 2, 0x1001_8005, None),
+    ];
+    for (at, word, other, size, count, a, found) in rows {
+        let mut file = [0; SIZE + 64];
+        fill(
+            &mut file,
+            &[(28, 252), (44, 0x0002_0028), (at, word), (other, size)],
+        );
+        let view = ElfView::read(&file).ok().ok_or("refused")?;
+        assert_eq!(rt; view.segments(), count, "{word} at {at}");
+        let both = words(rt.alloc(), &view, a)?;
+        assert_eq!(rt; both, (found, found), "word at {a}");
+    }
+    Ok(())
+}
+
+#[test]
+fn reads_no_two_segments(rt: HostRuntime) {
+    let rows = [
+        (284, 1, ElfError::SegOverlap(284)),
+        (292, 0x1001_0007, ElfError::SegOverlap(284)),
+        (292, 0x1000_fff9, ElfError::SegOverlap(284)),
+        (284, 2, ElfError::Dynamic(284)),
+        (300, 9, ElfError::SegRange(284)),
+        // All that is loaded is tested before whether segments meet.
+        (304, 0x03ff_fff8, ElfError::SegOverlap(284)),
+        (304, 0x03ff_fff9, ElfError::Limit(284, 67_108_864)),
+    ];
+    for (at, word, error) in rows {
+        let mut file = [0; SIZE + 64];
+        fill(&mut file, &[(28, 252), (44, 0x0002_0028), (at, word)]);
+        assert_eq!(rt;
+            ElfView::read(&file).err(),
+            Some(error),
+            "word {word} at {at}"
+        );
+    }
+}
+
+#[test]
+fn reads_no_long_file(rt: HostRuntime) -> Result<(), Fail> {
+    let file = vec![in rt.alloc(); 0; 33_554_433]?;
+    assert_eq!(rt;
+        ElfView::read(&file).err(),
+        Some(ElfError::Limit(0, 33_554_432))
+    );
+    Ok(())
+}
+
+// The string table is behind the file: 599 letters and a zero byte. The null symbol's name begins at its first byte.
+#[test]
+fn starts_of_names(rt: HostRuntime) -> Result<(), Fail> {
+    let rows = [
+        (0, 256, Ordering::Equal),
+        (1, 256, Ordering::Equal),
+        (344, 255, Ordering::Greater),
+        (598, 1, Ordering::Greater),
+        (599, 0, Ordering::Greater),
+    ];
+    for (name, length, order) in rows {
+        let mut file = [b'a'; SIZE + 600];
+        fill(&mut file[..SIZE], &[(116, name), (228, 252), (232, 600)]);
+        file[SIZE + 599] = 0;
+        let view = ElfView::read(&file).ok().ok_or("refused")?;
+        assert_eq!(rt; view.name_start(0).len(), 256);
+        assert_eq!(rt; view.name_start(1).len(), length, "at {name}");
+        assert_eq!(rt; view.compare_names(0, 1), order, "at {name}");
+        assert_eq!(rt; view.name_start(2).len(), 0);
+        if 1 < view.symbols() {
+            let fields = view.symbol_fields(1);
+            assert_eq!(rt; (fields.value, fields.size), (0x1001_0000, 8));
+            assert_eq!(rt; (fields.binding, fields.kind, fields.shndx), (1, 2, 0xfff1));
+        }
+    }
+    Ok(())
 }
 
 #[test]

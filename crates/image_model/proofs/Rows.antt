@@ -1,11 +1,12 @@
 -- The smallest executable with one segment of two words, one symbol and its string table, and what the definitions make of it.
-use Rattle.std.specs.Prelude.{◌≡◌, ℕ, List, [], ◌∷◌, ◌++◌, take, drop, Some, None, refl}
+use Rattle.std.specs.Prelude.{◌≡◌, ℕ, List, [], ◌∷◌, ◌++◌, take, drop, true, false, Some, None, refl}
 use Rattle.ordered_tests.specs.Checks.{first_fault}
 use Rattle.image_model.specs.declared.error.ElfError.TheVariants.{Short, SegRange, NameEnd}
 use Rattle.image_model.specs.Bytes.{half, word}
 use Rattle.image_model.specs.Image.{Image, image_of}
 use Rattle.image_model.specs.Tests.{elf_tests}
-use Rattle.image_model.specs.Loaded.{word_at, byte_at, flags_at, held_bytes}
+use Rattle.image_model.specs.Loaded.{word_at, byte_at, flags_at, held_bytes, is_executable, is_writable}
+use Rattle.image_model.specs.Names.{name_start_at}
 
 abbrev pub example_bytes : List ℕ
 example_bytes =
@@ -73,3 +74,23 @@ example_end = refl
 
 pub example_held : held_bytes example_image 0x10010003 0x10010005 ≡ Some (7 ∷ 78 ∷ [])
 example_held = refl
+
+-- the second symbol has a name, and there is no third
+pub example_starts : name_start_at example_image.symbols 1 ≡ 109 ∷ 97 ∷ 105 ∷ 110 ∷ []
+example_starts = refl
+
+pub example_no_start : (let none : List ℕ = [] in name_start_at example_image.symbols 2 ≡ none)
+example_no_start = refl
+
+-- flags 5 and 6
+pub code_flags : is_executable 5 ≡ true
+code_flags = refl
+
+pub code_is_closed : is_writable 5 ≡ false
+code_is_closed = refl
+
+pub data_flags : is_writable 6 ≡ true
+data_flags = refl
+
+pub data_is_no_code : is_executable 6 ≡ false
+data_is_no_code = refl

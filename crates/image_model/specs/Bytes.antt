@@ -1,6 +1,9 @@
 -- Numbers and parts of a list of bytes, by their places.
 -- System V gABI, "Data Representation", with ELFDATA2MSB.
-use Rattle.std.specs.Prelude.{ℕ, ◌+◌, ◌*◌, Bool, nat_le, List, length, take, drop, slice_index}
+use Rattle.std.specs.Prelude.{◌<◌, ℕ, ◌+◌, ◌*◌, Bool, nat_le, List, length, take, drop, slice_index, All}
+
+abbrev pub AreBytes : List ℕ → Type 0
+AreBytes numbers = All (λ n. n < 256) numbers
 
 -- the big-endian number of two bytes at a place
 unfoldable pub half : List ℕ → ℕ → ℕ

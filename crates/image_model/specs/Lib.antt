@@ -7,4 +7,6 @@ pub mod Image
 pub mod Tests
 pub mod Loaded
 pub mod Cuts
-pub mod Offsets
+pub mod Errors
+pub mod Segments
+pub mod Names

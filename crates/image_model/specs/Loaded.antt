@@ -1,11 +1,18 @@
 -- The bytes and the flags that an image loads at an address. System V gABI, "Program Loading".
-use Rattle.std.specs.Prelude.{◌<◌, ◌≤◌, ℕ, ◌+◌, ◌*◌, ◌-◌, ◌^◌, Bool, ◌&&◌, nat_lt, nat_le, if◌then◌else◌, List, length, slice_index, Option, find, option_map, option_and_then}
+use Rattle.std.specs.Prelude.{◌<◌, ◌≤◌, ℕ, ◌+◌, ◌*◌, ◌-◌, ◌/◌, ◌%◌, ◌^◌, Bool, ◌&&◌, ◌==◌, nat_lt, nat_le, if◌then◌else◌, List, length, slice_index, Option, find, option_map, option_and_then}
 use Rattle.image_model.specs.Bytes.{part}
 use Rattle.image_model.specs.Image.{Image, Segment}
 
 -- the address is in the segment
 abbrev pub covers : ℕ → Segment → Bool
 covers a s = nat_le s.vaddr a && nat_lt a (s.vaddr + s.memsz)
+
+-- PF_X and PF_W of flags
+abbrev pub is_executable : ℕ → Bool
+is_executable flags = flags % 2 == 1
+
+abbrev pub is_writable : ℕ → Bool
+is_writable flags = flags / 2 % 2 == 1
 
 -- a segment has a byte in memory, and no more in the file, and its addresses are below 2 ^ 32
 pub record HasRange (s : Segment) : Type 0 where
@@ -20,6 +27,10 @@ segment_of v a = find (covers a) v.segments
 -- byte i of a segment: one of the file, or zero behind these
 abbrev pub segment_byte : Segment → ℕ → ℕ
 segment_byte s i = if nat_lt i (length s.held) then slice_index s.held i else 0
+
+-- the big-endian word from byte i of a segment on
+abbrev pub segment_word : Segment → ℕ → ℕ
+segment_word s i = 16777216 * segment_byte s i + 65536 * segment_byte s (i + 1) + 256 * segment_byte s (i + 2) + segment_byte s (i + 3)
 
 abbrev pub byte_at : Image → ℕ → Option ℕ
 byte_at v a = option_map (λ (s : Segment). segment_byte s (a - s.vaddr)) (segment_of v a)

@@ -5,8 +5,8 @@ use Rattle.std.specs.List.{sum_by, list_all}
 use Rattle.ordered_tests.specs.Checks.{Check, check, first_fault, each_check, from_to}
 use Rattle.image_model.specs.declared.error.ElfError.{ElfError}
 use Rattle.image_model.specs.declared.error.ElfError.TheVariants.{Short, Ident, Kind, Machine, EntrySize, Dynamic, SegRange, SegOverlap, NoSymtab, TwoSymtabs, SymRange, NameEnd, Limit}
-use Rattle.image_model.specs.declared.limits.TheConstants.{MOST_IMAGE_BYTES, MOST_PROGRAM_HEADERS, MOST_LOADED_BYTES}
-use Rattle.image_model.specs.Bytes.{lies_in}
+use Rattle.limits.specs.declared.TheConstants.{MOST_IMAGE_BYTES, MOST_PROGRAM_HEADERS, MOST_LOADED_BYTES}
+use Rattle.image_model.specs.Bytes.{AreBytes, lies_in}
 use Rattle.image_model.specs.FileHeader.{e_type, e_machine, e_phoff, e_shoff, e_ehsize, e_phentsize, e_phnum, e_shentsize, e_shnum}
 use Rattle.image_model.specs.ProgramHeader.{program_header, p_type, p_offset, p_vaddr, p_filesz, p_memsz, is_load, loads_before}
 use Rattle.image_model.specs.SectionHeader.{sh_type, sh_offset, sh_size, sh_link, sh_entsize, symtabs, symtab, strtab, second_place}
@@ -141,6 +141,7 @@ elf_tests b = header_tests b ++ (segments_tests b ++ (symtab_tests b ++ (table_t
 
 -- the bytes are an executable, which stands for this image
 pub record IsElf (b : List ℕ) (v : Image) : Type 0 where
+  pub bytes : AreBytes b
   pub passes : first_fault (elf_tests b) ≡ None
   pub image : v ≡ image_of b
 

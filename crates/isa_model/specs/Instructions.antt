@@ -1,8 +1,9 @@
 -- The table of the 32-bit integer instructions: class by class the spelling and the opcode of each mnemonic, by its place in
--- the class's row; then the forms of words, the words without operands and the ranges of operands.
--- Power ISA 2.07, Book I: "Instruction Formats", "Branch Facility" and "Fixed-Point Facility".
-use Rattle.std.specs.Prelude.{ℕ, ◌+◌, ◌-◌, ◌*◌, ◌/◌, ◌%◌, ◌^◌, ℤ, pos, negsuc, Bool, ◌&&◌, ◌||◌, nat_lt, ◌==◌, int_le, List, [], ◌∷◌, slice_index, slice_index_or, unsigned_abs, codes}
-use Rattle.std.specs.Int.{cast_unsigned, w32}
+-- the class's row, and the words without operands.
+-- Power ISA 2.07, Book I: "Branch Facility" and "Fixed-Point Facility".
+use Rattle.std.specs.Prelude.{ℕ, List, [], ◌∷◌, slice_index, slice_index_or, codes}
+pub use Rattle.isa_model.specs.Forms.{d_form, x_form, extended, m_form, xfx_form, i_form, low_bits, primary_opcode}
+pub use Rattle.isa_model.specs.Operands.{is_register, is_bit_number, is_cr_field, is_s16, is_u16, is_displacement, is_branch_option}
 
 -- the spelling at a place of a row
 abbrev pub name_at : List (List ℕ) → ℕ → List ℕ
@@ -207,6 +208,10 @@ bctrl_word = 0x4e800421
 abbrev pub trap_word : ℕ
 trap_word = 0x7fe00008
 
+-- `ori 0,0,0`, the preferred form of no operation
+abbrev pub nop_word : ℕ
+nop_word = 0x60000000
+
 -- ---- instructions that stand in no dump: the stores that update their base, D-form and X-form, and the move from the
 -- condition register, XFX-form
 
@@ -260,71 +265,3 @@ cmpwi_place = 0
 
 abbrev pub addi_opcode : ℕ
 addi_opcode = slice_index alu_imm_opcodes addi_place
-
--- ---- the forms of words. "Instruction Formats"
-
--- a primary opcode, two fields of five bits, and 16 bits
-unfoldable pub d_form : ℕ → ℕ → ℕ → ℕ → ℕ
-d_form opcode x y low = opcode * 2 ^ 26 + x * 2 ^ 21 + y * 2 ^ 16 + low
-
--- a primary opcode, three fields of five bits, and 11 bits
-unfoldable pub x_form : ℕ → ℕ → ℕ → ℕ → ℕ → ℕ
-x_form opcode x y z low = opcode * 2 ^ 26 + x * 2 ^ 21 + y * 2 ^ 16 + z * 2 ^ 11 + low
-
--- the low 11 bits of an X-, XO- or XL-form: ten bits of opcode, and the bit Rc or LK
-abbrev pub extended : ℕ → ℕ → ℕ
-extended opcode last = 2 * opcode + last
-
--- M-form: the numbers of a shift and of the ends of a mask
-abbrev pub m_form : ℕ → ℕ → ℕ → ℕ → ℕ → ℕ → ℕ
-m_form opcode x y sh mb me = x_form opcode x y sh (64 * mb + 2 * me)
-
--- XFX-form of a special register's number, whose two halves of five bits are exchanged
-abbrev pub xfx_form : ℕ → ℕ → ℕ → ℕ
-xfx_form x spr opcode = x_form 31 x (spr % 32) (spr / 32) (extended opcode 0)
-
--- I-form, AA is 0: 26 bits of displacement, and the bit LK
-unfoldable pub i_form : ℕ → ℕ → ℕ
-i_form displacement lk = b_opcode * 2 ^ 26 + displacement + lk
-
--- the low n bits of a number with a sign
-abbrev pub low_bits : ℕ → ℤ → ℕ
-low_bits n z = cast_unsigned w32 z % 2 ^ n
-
--- the first six bits of a word
-abbrev pub primary_opcode : ℕ → ℕ
-primary_opcode word = word / 2 ^ 26
-
--- `ori 0,0,0`, the preferred form of no operation
-abbrev pub nop_word : ℕ
-nop_word = 0x60000000
-
--- ---- the ranges of operands
-
-abbrev pub is_register : ℕ → Bool
-is_register n = nat_lt n 32
-
--- a bit of a word or of the condition register
-abbrev pub is_bit_number : ℕ → Bool
-is_bit_number n = nat_lt n 32
-
--- a field of the condition register
-abbrev pub is_cr_field : ℕ → Bool
-is_cr_field n = nat_lt n 8
-
--- an immediate of 16 bits with a sign
-abbrev pub is_s16 : ℤ → Bool
-is_s16 z = int_le (negsuc 32767) z && int_le z (pos 32767)
-
--- an immediate of 16 bits without a sign
-abbrev pub is_u16 : ℤ → Bool
-is_u16 z = int_le (pos 0) z && int_le z (pos 65535)
-
--- a multiple of 4 that is a number of n bits with a sign
-abbrev pub is_displacement : ℕ → ℤ → Bool
-is_displacement n z =
-    int_le (negsuc (2 ^ (n - 1) - 1)) z && int_le z (pos (2 ^ (n - 1) - 1)) && unsigned_abs z % 4 == 0
-
--- BO and BI of the branches in use: where a bit is 0, where it is 1, and bdnz, whose BI is 0. "Branch Instructions"
-abbrev pub is_branch_option : ℕ → ℕ → Bool
-is_branch_option bo bi = bo == 4 || bo == 12 || (bo == 16 && bi == 0)

@@ -22,6 +22,10 @@ lo a = a % 2 ^ 16
 abbrev pub sign_extended : ℕ → ℕ → ℕ
 sign_extended k n = let low = n % 2 ^ k in if nat_lt low (2 ^ (k - 1)) then low else low + (2 ^ 32 - 2 ^ k)
 
+-- EXTS of a byte
+abbrev pub sext8 : ℕ → ℕ
+sext8 n = sign_extended 8 n
+
 -- EXTS of an immediate of 16 bits
 abbrev pub sext16 : ℕ → ℕ
 sext16 n = sign_extended 16 n
@@ -42,7 +46,7 @@ HalvesJoin = (a : ℕ) → a < 2 ^ 32 → joined (ha a) (lo a) ≡ a
 abbrev pub rotl : ℕ → ℕ → ℕ
 rotl a n = let k = n % 32 in wrapped (a * 2 ^ k) + a / 2 ^ (32 - k)
 
--- ones from the bit mb to the lowest
+-- ones from the bit mb to the lowest, and none from 32 on
 abbrev pub ones_from : ℕ → ℕ
 ones_from mb = 2 ^ (32 - mb) - 1
 

@@ -1,10 +1,3 @@
-// The words of the Power ISA, their arithmetic, and the table of the 32-bit integer instructions, as definitions that the crates above cite.
+//! Definitions of the words of the Power ISA, their arithmetic, the table of the 32-bit integer instructions, the forms of
+//! instruction words and the ranges of operands.
 #![tactic(auto)]
-
-ghost use Rattle.isa_model.specs.Word.{HalvesJoin};
-
-/// An address is its high half, adjusted, and its low half, sign-extended.
-/// PowerPC EABI, the operators `@ha` and `@l`.
-pub fn halves_join()
-    ensures { HalvesJoin }
-{}

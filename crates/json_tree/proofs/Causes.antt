@@ -24,11 +24,13 @@ AllowsShared allows = (cause : Cause) → is_shared_cause cause ≡ true → all
 
 module _ (allows : Cause → Bool) where
   -- ---- one reading after another
-  pub after : {A T : Type 0} (r : Result A Fault) (read : A → Result T Fault) → FailsBy allows r → ((a : A) → FailsBy allows (read a)) → FailsBy allows (r >>= read)
+  pub after : {A T : Type 0} (r : Result A Fault) (read : A → Result T Fault) → FailsBy allows r → ((a : A) → FailsBy allows (read a))
+      → FailsBy allows (r >>= read)
   after (Ok a) read h g = g a
   after (Err fault) read h g = h
 
-  pub behind : {A T : Type 0} (r : Result A Fault) (read : Result T Fault) → FailsBy allows r → FailsBy allows read → FailsBy allows (r >> read)
+  pub behind : {A T : Type 0} (r : Result A Fault) (read : Result T Fault) → FailsBy allows r → FailsBy allows read
+      → FailsBy allows (r >> read)
   behind (Ok a) read h g = g
   behind (Err fault) read h g = h
 
@@ -40,11 +42,14 @@ module _ (allows : Cause → Bool) where
   choice true r s h g = h
   choice false r s h g = g
 
-  pub at_item : {T : Type 0} (i : ℕ) (read : Data → Result T Fault) (ds : List Data) → ((d : Data) → FailsBy allows (read d)) → FailsBy allows (nth i read ds)
+  pub at_item : {T : Type 0} (i : ℕ) (read : Data → Result T Fault) (ds : List Data) → ((d : Data) → FailsBy allows (read d))
+      → FailsBy allows (nth i read ds)
   unfolding nth
   at_item i read ds h = below (Index i) (read (slice_index_or ds i null)) (h (slice_index_or ds i null))
 
-  pub of_each : {S T : Type 0} (next : S → T → S) (read : S → Data → Result T Fault) → ((left : S) (d : Data) → FailsBy allows (read left d)) → (left : S) (i : ℕ) (ds : List Data) → FailsBy allows (each_from next read left i ds)
+  pub of_each : {S T : Type 0} (next : S → T → S) (read : S → Data → Result T Fault)
+      → ((left : S) (d : Data) → FailsBy allows (read left d)) → (left : S) (i : ℕ) (ds : List Data)
+      → FailsBy allows (each_from next read left i ds)
   unfolding each_from
   of_each next read h left i [] = tt
   of_each next read h left i (d ∷ ds) =
@@ -53,7 +58,8 @@ module _ (allows : Cause → Bool) where
 
 module _ (allows : Cause → Bool) (shared : AllowsShared allows) where
   -- ---- kinds and texts
-  pub of_a_kind : {A T : Type 0} (o : Option A) (read : A → Result T Fault) → ((a : A) → FailsBy allows (read a)) → FailsBy allows (of_kind o read)
+  pub of_a_kind : {A T : Type 0} (o : Option A) (read : A → Result T Fault) → ((a : A) → FailsBy allows (read a))
+      → FailsBy allows (of_kind o read)
   of_a_kind None read h = shared WrongKind refl
   of_a_kind (Some a) read h = h a
 
@@ -86,7 +92,8 @@ module _ (allows : Cause → Bool) (shared : AllowsShared allows) where
   unfolding or_null
   of_null read d h = choice allows (is_some (as_null d)) _ _ tt (after allows (read d) _ h λ x. tt)
 
-  pub at_field : {T : Type 0} (key : List ℕ) (read : Data → Result T Fault) (d : Data) → ((e : Data) → FailsBy allows (read e)) → FailsBy allows (field key read d)
+  pub at_field : {T : Type 0} (key : List ℕ) (read : Data → Result T Fault) (d : Data) → ((e : Data) → FailsBy allows (read e))
+      → FailsBy allows (field key read d)
   unfolding field
   at_field key read d h = below allows (Key key) (if_there (get key d) read) (at (get key d)) where
     at : (o : Option Data) → FailsBy allows (if_there o read)
@@ -102,7 +109,8 @@ module _ (allows : Cause → Bool) (shared : AllowsShared allows) where
   unfolding limited
   of_limited limit ds = choice allows (nat_le (length ds) limit) _ _ tt (shared (Limit limit) refl)
 
-  pub of_list : {T : Type 0} (limit : ℕ) (read : Data → Result T Fault) (d : Data) → ((e : Data) → FailsBy allows (read e)) → FailsBy allows (list limit read d)
+  pub of_list : {T : Type 0} (limit : ℕ) (read : Data → Result T Fault) (d : Data) → ((e : Data) → FailsBy allows (read e))
+      → FailsBy allows (list limit read d)
   unfolding list
   of_list limit read d h =
       after allows (items d) _ (of_items d) λ ds.
@@ -117,7 +125,8 @@ module _ (allows : Cause → Bool) (shared : AllowsShared allows) where
   unfolding tuple
   of_tuple count d = after allows (items d) _ (of_items d) λ ds. behind allows (counted count ds) _ (of_counted count ds) tt
 
-  pub of_chosen : {T : Type 0} (read : Data → Result T Fault) (ds : List Data) → ((d : Data) → FailsBy allows (read d)) → FailsBy allows (chosen read ds)
+  pub of_chosen : {T : Type 0} (read : Data → Result T Fault) (ds : List Data) → ((d : Data) → FailsBy allows (read d))
+      → FailsBy allows (chosen read ds)
   unfolding chosen
   of_chosen read ds h = choice allows (length ds == 0) _ _ (shared OutOfRange refl) (at_item allows 0 read ds h)
 
@@ -127,7 +136,8 @@ module _ (allows : Cause → Bool) (shared : AllowsShared allows) where
 
   pub of_ranged : (lo hi : ℤ) (d : Data) → FailsBy allows (ranged lo hi d)
   unfolding ranged
-  of_ranged lo hi d = after allows (integer d) _ (of_integer d) λ z. choice allows (int_lt z lo || int_lt hi z) _ _ (shared OutOfRange refl) tt
+  of_ranged lo hi d = after allows (integer d) _ (of_integer d) λ z. choice allows (int_lt z lo || int_lt hi z) _ _
+      (shared OutOfRange refl) tt
 
   of_up_to : (most : ℕ) (z : ℤ) → FailsBy allows (up_to most z)
   of_up_to most (pos n) = choice allows (nat_le n most) _ _ tt (shared OutOfRange refl)
@@ -139,7 +149,8 @@ module _ (allows : Cause → Bool) (shared : AllowsShared allows) where
 
   pub of_wrapped : (size : ℕ) (d : Data) → FailsBy allows (wrapped size d)
   unfolding wrapped
-  of_wrapped size d = after allows (ranged (negsuc (size / 2 - 1)) (pos (size - 1)) d) _ (of_ranged (negsuc (size / 2 - 1)) (pos (size - 1)) d) λ z. tt
+  of_wrapped size d = after allows (ranged (negsuc (size / 2 - 1)) (pos (size - 1)) d) _
+      (of_ranged (negsuc (size / 2 - 1)) (pos (size - 1)) d) λ z. tt
 
   pub of_word_number : (d : Data) → FailsBy allows (word d)
   unfolding word
@@ -160,7 +171,9 @@ module _ (allows : Cause → Bool) (shared : AllowsShared allows) where
   of_address_text : (bytes : List ℕ) → FailsBy allows (address_text bytes)
   of_address_text [] = shared OutOfRange refl
   of_address_text (a ∷ []) = shared OutOfRange refl
-  of_address_text (a ∷ b ∷ digits) = choice allows (a == 0x30 && b == 0x78 && nat_le 1 (length digits) && nat_le (length digits) 8 && list_all is_hex_digit digits) _ _ tt (shared OutOfRange refl)
+  of_address_text (a ∷ b ∷ digits) = choice allows
+      (a == 0x30 && b == 0x78 && nat_le 1 (length digits) && nat_le (length digits) 8 && list_all is_hex_digit digits) _ _ tt
+      (shared OutOfRange refl)
 
   pub of_address : (d : Data) → FailsBy allows (address d)
   unfolding address

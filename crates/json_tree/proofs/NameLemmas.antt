@@ -12,7 +12,8 @@ use Rattle.asm_syntax.specs.declared.name.NameError.TheVariants.{Length, Byte, M
 visible_prefix : (xs : List ℕ) → list_all is_name_byte xs ≡ true → length xs ≤ prefix_len is_name_byte xs
 visible_prefix [] h = omega arith
 visible_prefix (x ∷ xs) h = at (is_name_byte x) refl (visible_prefix xs) where
-  at : (t : Bool) → is_name_byte x ≡ t → (list_all is_name_byte xs ≡ true → length xs ≤ prefix_len is_name_byte xs) → length (x ∷ xs) ≤ prefix_len is_name_byte (x ∷ xs)
+  at : (t : Bool) → is_name_byte x ≡ t → (list_all is_name_byte xs ≡ true → length xs ≤ prefix_len is_name_byte xs)
+      → length (x ∷ xs) ≤ prefix_len is_name_byte (x ∷ xs)
   at true e rest = let k : length xs ≤ prefix_len is_name_byte xs = rest (rw e at h) in rw e (omega arith)
   at false e rest = absurd (let k : false ≡ true = rw e at h in cc)
 
@@ -26,7 +27,8 @@ hidden_in_none : (bytes : List ℕ) (at : ℕ) → position is_hidden bytes ≡ 
 hidden_in_none bytes at h = cases (list_all is_name_byte bytes) refl where
   cases : (t : Bool) → list_all is_name_byte bytes ≡ t → list_all is_name_byte bytes ≡ false
   cases false e = e
-  cases true e = absurd (let most : length bytes ≤ prefix_len is_name_byte bytes = visible_prefix bytes e in let less : prefix_len is_name_byte bytes < length bytes = hidden_is_found bytes at h in omega arith)
+  cases true e = absurd (let most : length bytes ≤ prefix_len is_name_byte bytes = visible_prefix bytes e in let less : prefix_len
+      is_name_byte bytes < length bytes = hidden_is_found bytes at h in omega arith)
 
 pub no_name : (bytes : List ℕ) (e : NameError) → Refuses bytes (Err e) → e ≢ Memory → is_name bytes ≡ false
 no_name bytes Length h other = grind (arith, nat_tests)

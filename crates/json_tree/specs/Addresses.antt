@@ -19,7 +19,8 @@ abbrev pub hex_number : List ℕ → ℕ
 hex_number digits = fold (λ n c. 16 * n + hex_digit c) 0 digits
 
 abbrev pub address_text : List ℕ → Result ℕ Fault
-address_text (a ∷ b ∷ digits) = if a == 0x30 && b == 0x78 && nat_le 1 (length digits) && nat_le (length digits) 8 && list_all is_hex_digit digits then Ok (hex_number digits) else fail OutOfRange
+address_text (a ∷ b ∷ digits) = if a == 0x30 && b == 0x78 && nat_le 1 (length digits) && nat_le (length digits) 8 && list_all is_hex_digit
+    digits then Ok (hex_number digits) else fail OutOfRange
 address_text _ = fail OutOfRange
 
 abbrev pub address_of : Option (List ℕ) → Data → Result ℕ Fault

@@ -27,10 +27,12 @@ new_name taken d = do
   if is_taken taken bytes then fail OutOfRange else Ok bytes
 
 -- each item, where an item is read knowing the names that are taken, and takes one more
-abbrev pub each_named : {T : Type 0} → (T → List ℕ) → (List (List ℕ) → Data → Result T Fault) → List (List ℕ) → List Data → Result (List T) Fault
+abbrev pub each_named : {T : Type 0} → (T → List ℕ) → (List (List ℕ) → Data → Result T Fault) → List (List ℕ) → List Data
+    → Result (List T) Fault
 each_named name_of read taken ds = each_from (λ left x. with_name left (name_of x)) read taken 0 ds
 
-unfoldable pub named_list : {T : Type 0} → (T → List ℕ) → (List (List ℕ) → Data → Result T Fault) → List (List ℕ) → ℕ → Data → Result (List T) Fault
+unfoldable pub named_list : {T : Type 0} → (T → List ℕ) → (List (List ℕ) → Data → Result T Fault) → List (List ℕ) → ℕ → Data
+    → Result (List T) Fault
 named_list name_of read taken limit d = do
   ds ← items d
   limited limit ds

@@ -4,29 +4,21 @@ use Rattle.std.specs.Str.{bytes_eq}
 use Rattle.asm_syntax.specs.Names.{is_name}
 use Rattle.asm_syntax.specs.declared.path.Step.{Step}
 use Rattle.asm_syntax.specs.declared.path.Step.TheVariants.{Key}
+pub use Rattle.ordered_tests.specs.Steps.{◌>>=◌, ◌>>◌}
 use Rattle.serde_json.specs.Data.{Data}
 use Rattle.serde_json.specs.Find.{get, as_bool, as_null, as_object, as_str}
 use Rattle.json_tree.specs.declared.fault.Cause.{Cause}
 use Rattle.json_tree.specs.declared.fault.Cause.TheVariants.{Missing, WrongKind, OutOfRange, UnknownWord}
 use Rattle.json_tree.specs.declared.fault.Fault.{Fault}
 
--- ---- one reading after another: the first fault ends it
-
-infixl 10 ◌>>=◌
-abbrev pub ◌>>=◌ : {A B : Type 0} → Result A Fault → (A → Result B Fault) → Result B Fault
-(Ok x) >>= read = read x
-(Err fault) >>= read = Err fault
-
-infixl 10 ◌>>◌
-abbrev pub ◌>>◌ : {A B : Type 0} → Result A Fault → Result B Fault → Result B Fault
-(Ok x) >> read = read
-(Err fault) >> read = Err fault
-
 -- ---- faults and their places
 
 -- a fault at the place itself
+abbrev pub here : Cause → Fault
+here cause = record { cause = cause; path = [] }
+
 abbrev pub fail : {T : Type 0} → Cause → Result T Fault
-fail cause = Err (record { cause = cause; path = [] })
+fail cause = Err (here cause)
 
 -- what is read one step below
 abbrev pub under : {T : Type 0} → Step → Result T Fault → Result T Fault

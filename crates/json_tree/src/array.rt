@@ -8,7 +8,7 @@ ghost use Rattle.json_tree.specs.Reading.{field, if_there};
 ghost use Rattle.json_tree.specs.Arrays.{items, each, limited, list, counted, tuple, nth, chosen};
 
 use crate::fault::{Cause, ReadError};
-use crate::tree::{Own, Reads, Tree, at_index, at_key};
+use crate::tree::{Own, Reads, Tree, at_index, at_key, member};
 use asm_syntax::listed::Listed;
 use serde_json::Value;
 use std::alloc::Global;
@@ -72,21 +72,6 @@ pub fn list<T: Tree>(alloc: Global, tree: &Value, limit: u32) -> Result<Listed<T
     list_by::<Own, T>(alloc, tree, limit)
 }
 
-fn list_there<P: Reads<T>, T: Drop>(
-    alloc: Global,
-    there: Option<&Value>,
-    limit: u32,
-) -> Result<Listed<T>, ReadError>
-    ensures gives { Gives result
-        (if_there (option_map (λ value. view value.now) there.entry) (list limit P.reads)) }
-    ensures few { IfOk result (λ list. length list ≤ limit) }
-{
-    match there {
-        Some(value) => list_by::<P, T>(alloc, value, limit),
-        None => Err(ReadError::here(alloc, Cause::Missing)),
-    }
-}
-
 /// The member at a key that is an array of at most so many items, each read as a profile says.
 #[tactic(auto, unfolding(crate::specs::Reading::field))]
 pub fn list_field_by<P: Reads<T>, T: Drop>(
@@ -99,7 +84,8 @@ pub fn list_field_by<P: Reads<T>, T: Drop>(
     ensures gives { Gives result (field key.now (list limit P.reads) (view tree.now)) }
     ensures few { IfOk result (λ list. length list ≤ limit) }
 {
-    at_key(alloc, key, list_there::<P, T>(alloc, tree.get(key), limit))
+    let read = member(alloc, tree, key).and_then(|value| list_by::<P, T>(alloc, value, limit));
+    at_key(alloc, key, read)
 }
 
 /// The member at a key that is an array of at most so many items.
@@ -171,12 +157,4 @@ pub fn chosen_by<P: Reads<T>, T: Drop>(alloc: Global, values: &[Value]) -> Resul
         return Err(ReadError::here(alloc, Cause::OutOfRange));
     }
     nth_by::<P, T>(alloc, values, 0)
-}
-
-/// What the first item chooses. An empty array is out of range.
-pub fn chosen<T: Tree>(alloc: Global, values: &[Value]) -> Result<T, ReadError>
-    ensures gives { Gives result (chosen T.reads (map view values.now)) }
-    ensures some { OnOk result (0 < length values.now) }
-{
-    chosen_by::<Own, T>(alloc, values)
 }

@@ -140,23 +140,6 @@ pub fn natural_at(alloc: Global, values: &[Value], index: u32, most: u32) -> Res
     at_index(alloc, index, natural(alloc, &values[index as usize], most))
 }
 
-/// The item at an index, an integer from lo to hi.
-#[tactic(auto, unfolding(crate::specs::Arrays::nth), using(crate::proofs::Items::array_tools))]
-pub fn ranged_at(
-    alloc: Global,
-    values: &[Value],
-    index: u32,
-    lo: i64,
-    hi: i64,
-) -> Result<i64, ReadError>
-    requires { index < length values.now }
-    ensures gives { Gives result (nth index (ranged lo hi) (map view values.now)) }
-    ensures low { IfOk result (λ z. lo ≤ℤ z) }
-    ensures high { IfOk result (λ z. z ≤ℤ hi) }
-{
-    at_index(alloc, index, ranged(alloc, &values[index as usize], lo, hi))
-}
-
 /// The item at an index, an integer that is signed or unsigned in a size, taken modulo the size.
 #[tactic(auto, unfolding(crate::specs::Arrays::nth), using(crate::proofs::Items::array_tools))]
 pub fn wrapped_at(alloc: Global, values: &[Value], index: u32, size: u64) -> Result<u32, ReadError>

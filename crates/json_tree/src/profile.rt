@@ -9,7 +9,7 @@ ghost use Rattle.json_tree.specs.Reading.{field, if_there};
 use crate::fault::{Cause, ReadError};
 use crate::number::integer;
 use crate::text::stated_field;
-use crate::tree::{at_key, object};
+use crate::tree::{at_key, member, object};
 use serde_json::Value;
 use std::alloc::Global;
 
@@ -50,25 +50,12 @@ fn version(alloc: Global, tree: &Value, newest: u32) -> Result<u32, ReadError>
     }
 }
 
-fn version_there(alloc: Global, there: Option<&Value>, newest: u32) -> Result<u32, ReadError>
-    ensures { Gives result
-        (if_there (option_map (λ value. view value.now) there.entry) (version newest)) }
-{
-    match there {
-        Some(value) => version(alloc, value, newest),
-        None => Err(ReadError::here(alloc, Cause::Missing)),
-    }
-}
-
 #[tactic(auto, unfolding(crate::specs::Reading::field))]
 fn version_field(alloc: Global, tree: &Value, newest: u32) -> Result<u32, ReadError>
     ensures { Gives result (field (codes "version") (version newest) (view tree.now)) }
 {
-    at_key(
-        alloc,
-        "version",
-        version_there(alloc, tree.get("version"), newest),
-    )
+    let read = member(alloc, tree, "version").and_then(|value| version(alloc, value, newest));
+    at_key(alloc, "version", read)
 }
 
 /// The head of a profile, whose version is given. `newest` is the newest version that is read.

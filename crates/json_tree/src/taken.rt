@@ -3,6 +3,7 @@
 ghost use Rattle.std.specs.Prelude.{◌≡◌, ℕ, List, [], ◌<◌, ◌≤◌, ◌^◌, IsTrue, IfOk, Result, map, length, not, ◌||◌, option_map};
 ghost use Rattle.std.specs.Str.{bytes_eq};
 ghost use Rattle.serde_json.specs.Data.{Data};
+ghost use Rattle.serde_json.specs.Find.{get};
 ghost use Rattle.serde_json.specs.View.{view};
 ghost use Rattle.asm_syntax.specs.Names.{is_name};
 ghost use Rattle.json_tree.specs.declared.fault.Fault.{Fault};
@@ -12,7 +13,7 @@ ghost use Rattle.json_tree.specs.NewNames.{is_taken, with_name, with_names, new_
 
 use crate::array::{items, limited};
 use crate::fault::{Cause, ReadError};
-use crate::tree::{Tree, at_index, at_key};
+use crate::tree::{Tree, at_index, at_key, member};
 use asm_syntax::listed::Listed;
 use asm_syntax::name::Name;
 use serde_json::Value;
@@ -70,19 +71,11 @@ pub fn new_name(alloc: Global, taken: &mut Taken, tree: &Value) -> Result<Name, 
     }
 }
 
-fn new_name_there(
-    alloc: Global,
-    taken: &mut Taken,
-    there: Option<&Value>,
-) -> Result<Name, ReadError>
-    ensures gives { Gives result
-        (if_there (option_map (λ value. view value.now) there.entry) (new_name taken.old)) }
+fn new_member(alloc: Global, taken: &mut Taken, tree: &Value, key: &str) -> Result<Name, ReadError>
+    ensures gives { Gives result (if_there (get key.now (view tree.now)) (new_name taken.old)) }
     ensures taken { IfOk result (λ name. taken.new ≡ with_name taken.old name) }
 {
-    match there {
-        Some(value) => new_name(alloc, taken, value),
-        None => Err(ReadError::here(alloc, Cause::Missing)),
-    }
+    new_name(alloc, taken, member(alloc, tree, key)?)
 }
 
 /// The member at a key that is a free name, which it takes.
@@ -97,7 +90,7 @@ pub fn new_name_field(
     ensures gives { Gives result (field key.now (new_name taken.old) (view tree.now)) }
     ensures taken { IfOk result (λ name. taken.new ≡ with_name taken.old name) }
 {
-    at_key(alloc, key, new_name_there(alloc, taken, tree.get(key)))
+    at_key(alloc, key, new_member(alloc, taken, tree, key))
 }
 
 /// A profile that says how the values of a type with names are read: a value is read knowing the names that are taken, and
@@ -150,21 +143,19 @@ pub fn named_list<P: ReadsNamed<T>, T: Drop>(
     Ok(Listed::from_vec(read_each_named::<P, T>(alloc, taken, values)?))
 }
 
-fn named_list_there<P: ReadsNamed<T>, T: Drop>(
+fn named_member<P: ReadsNamed<T>, T: Drop>(
     alloc: Global,
     taken: &mut Taken,
-    there: Option<&Value>,
+    tree: &Value,
+    key: &str,
     limit: u32,
 ) -> Result<Listed<T>, ReadError>
     ensures gives { Gives result
-        (if_there (option_map (λ value. view value.now) there.entry) (named_list P.name_of P.reads taken.old limit)) }
+        (if_there (get key.now (view tree.now)) (named_list P.name_of P.reads taken.old limit)) }
     ensures taken { IfOk result (λ list. taken.new ≡ with_names taken.old (map P.name_of list)) }
     ensures few { IfOk result (λ list. length list ≤ limit) }
 {
-    match there {
-        Some(value) => named_list::<P, T>(alloc, taken, value, limit),
-        None => Err(ReadError::here(alloc, Cause::Missing)),
-    }
+    named_list::<P, T>(alloc, taken, member(alloc, tree, key)?, limit)
 }
 
 /// The member at a key that is an array of at most so many items with free names, which it takes.
@@ -184,6 +175,6 @@ pub fn named_list_field<P: ReadsNamed<T>, T: Drop>(
     at_key(
         alloc,
         key,
-        named_list_there::<P, T>(alloc, taken, tree.get(key), limit),
+        named_member::<P, T>(alloc, taken, tree, key, limit),
     )
 }

@@ -8,7 +8,7 @@ ghost use Rattle.json_tree.specs.Reading.{text, stated, field, if_there, look_up
 ghost use Rattle.json_tree.specs.Tables.{row};
 
 use crate::fault::{Cause, ReadError};
-use crate::tree::at_key;
+use crate::tree::{at_key, member};
 use serde_json::Value;
 use std::alloc::Global;
 
@@ -23,7 +23,7 @@ pub fn text(alloc: Global, tree: &Value) -> Result<&str, ReadError>
 
 /// The one text that may stand there.
 #[tactic(auto, unfolding(crate::specs::Reading::stated))]
-pub fn stated(alloc: Global, tree: &Value, word: &str) -> Result<(), ReadError>
+fn stated(alloc: Global, tree: &Value, word: &str) -> Result<(), ReadError>
     ensures { Gives result (stated word.now (view tree.now)) }
 {
     if text(alloc, tree)? == word {
@@ -33,27 +33,18 @@ pub fn stated(alloc: Global, tree: &Value, word: &str) -> Result<(), ReadError>
     }
 }
 
-fn stated_there(alloc: Global, there: Option<&Value>, word: &str) -> Result<(), ReadError>
-    ensures { Gives result
-        (if_there (option_map (λ value. view value.now) there.entry) (stated word.now)) }
-{
-    match there {
-        Some(value) => stated(alloc, value, word),
-        None => Err(ReadError::here(alloc, Cause::Missing)),
-    }
-}
-
 /// The member at a key that is one text alone.
 #[tactic(auto, unfolding(crate::specs::Reading::field))]
 pub fn stated_field(alloc: Global, tree: &Value, key: &str, word: &str) -> Result<(), ReadError>
     requires { IsTrue (is_name key.now) }
     ensures { Gives result (field key.now (stated word.now) (view tree.now)) }
 {
-    at_key(alloc, key, stated_there(alloc, tree.get(key), word))
+    let read = member(alloc, tree, key).and_then(|value| stated(alloc, value, word));
+    at_key(alloc, key, read)
 }
 
 /// What the first row with this text has.
-pub fn look_up<T: Copy>(table: &[(&str, T)], text: &str) -> Option<T>
+fn look_up<T: Copy>(table: &[(&str, T)], text: &str) -> Option<T>
     ensures { result ≡ look_up (map row table.now) text.now }
 {
     for (word, meaning) in table {

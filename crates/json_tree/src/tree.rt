@@ -1,13 +1,15 @@
 //! Types that are read in one way, the steps of paths, and members of objects.
 
-ghost use Rattle.std.specs.Prelude.{◌≡◌, IsTrue, IfOk, Result, Ok, Option, option_map, Bool};
+ghost use Rattle.std.specs.Prelude.{◌≡◌, IsTrue, IfOk, IfErr, Result, Ok, Option, Some, None, option_map, Bool};
 ghost use Rattle.serde_json.specs.Data.{Data};
+ghost use Rattle.serde_json.specs.Find.{get};
 ghost use Rattle.serde_json.specs.View.{view};
 ghost use Rattle.asm_syntax.specs.Names.{is_name};
 ghost use Rattle.asm_syntax.specs.declared.path.Step.TheVariants.{Key, Index};
+ghost use Rattle.json_tree.specs.declared.fault.Cause.TheVariants.{Missing};
 ghost use Rattle.json_tree.specs.declared.fault.Fault.{Fault};
 ghost use Rattle.json_tree.specs.Answers.{Gives};
-ghost use Rattle.json_tree.specs.Reading.{under, field, if_there, object, boolean, or_null};
+ghost use Rattle.json_tree.specs.Reading.{under, here, field, if_there, object, boolean, or_null};
 
 use crate::fault::{Cause, Fault, ReadError};
 use crate::name::name_of;
@@ -89,11 +91,13 @@ pub fn at_index<T: Drop>(
     }
 }
 
-fn read_there<P: Reads<T>, T: Drop>(alloc: Global, there: Option<&Value>) -> Result<T, ReadError>
-    ensures { Gives result (if_there (option_map (λ value. view value.now) there.entry) P.reads) }
+/// The member of an object at a key.
+pub(crate) fn member<'a>(alloc: Global, tree: &'a Value, key: &str) -> Result<&'a Value, ReadError>
+    ensures there { IfOk result (λ value. get key.now (view tree.now) ≡ Some (view value.now)) }
+    ensures missing { IfErr result (λ e. (e ≡ ReadError.Fault (here Missing)) × (get key.now (view tree.now) ≡ None)) }
 {
-    match there {
-        Some(value) => P::read(alloc, value),
+    match tree.get(key) {
+        Some(value) => Ok(value),
         None => Err(ReadError::here(alloc, Cause::Missing)),
     }
 }
@@ -108,7 +112,8 @@ pub fn field_by<P: Reads<T>, T: Drop>(
     requires { IsTrue (is_name key.now) }
     ensures { Gives result (field key.now P.reads (view tree.now)) }
 {
-    at_key(alloc, key, read_there::<P, T>(alloc, tree.get(key)))
+    let read = member(alloc, tree, key).and_then(|value| P::read(alloc, value));
+    at_key(alloc, key, read)
 }
 
 /// The member of an object at a key.

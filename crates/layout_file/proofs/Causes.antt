@@ -1,12 +1,12 @@
 -- The causes for which a tree is no layout.
-use Rattle.std.proofs.Common.{◌≡◌, ℕ, ◌+◌, Bool, true, false, List, [], ◌∷◌, length, Option, Some, Result, refl}
+use Rattle.std.proofs.Common.{◌≡◌, ℕ, ◌+◌, Bool, true, false, List, [], ◌∷◌, length, Option, Some, Result, Ok, refl}
 use Rattle.std.specs.Prelude.{nat_le, ◌&&◌, codes, if◌then◌else◌}
 use Rattle.std.specs.List.{list_all}
 use Rattle.serde_json.specs.Data.{Data}
 use Rattle.asm_syntax.specs.Names.{is_name_byte}
 use Rattle.asm_syntax.specs.declared.path.Step.TheVariants.{Key, Index}
 use Rattle.ordered_tests.specs.Checks.{Check, first_fault}
-use Rattle.json_tree.specs.declared.fault.Cause.{Cause}
+use Rattle.ordered_tests.specs.Steps.{◌>>◌, unless, all_pass}
 use Rattle.json_tree.specs.declared.fault.Cause.TheVariants.{Missing, WrongKind, OutOfRange, UnknownWord, Version, Shape, Refused, RangeOrder, Unaligned, Limit}
 use Rattle.json_tree.specs.declared.fault.Fault.{Fault}
 use Rattle.json_tree.specs.Causes.{FailsBy}
@@ -15,12 +15,12 @@ use Rattle.json_tree.specs.Arrays.{items, limited, list, tuple, nth}
 use Rattle.json_tree.specs.Addresses.{address}
 use Rattle.json_tree.specs.Profile.{header}
 use Rattle.json_tree.proofs.Causes.{AllowsShared, after, behind, below, choice, at_item, of_object, of_text, of_name, of_word, of_null, at_field, of_items, of_limited, of_list, of_tuple, of_address, of_header}
-use Rattle.layout_file.specs.declared.limits.TheConstants.{MOST_AREAS, MOST_FOREIGN_RANGES, MOST_PINS}
-use Rattle.layout_file.specs.Causes.{is_layout_cause, LayoutCauses}
-use Rattle.layout_file.specs.Layouts.{Pin}
+use Rattle.limits.specs.declared.TheConstants.{MOST_AREAS, MOST_FOREIGN_RANGES, MOST_PINS}
+use Rattle.layout_file.specs.Causes.{is_layout_cause}
+use Rattle.layout_model.specs.Layouts.{Pin}
 use Rattle.layout_file.specs.LayoutTree.{ends, range, stack, stop, label, kinds, area, unpinned, pin, pins_from, pins, layout}
 use Rattle.layout_file.specs.Pins.{is_pinned, with_pin}
-use Rattle.layout_file.specs.RangeTests.{range_tests, stack_tests, stop_tests, unless, tested}
+use Rattle.layout_file.specs.RangeTests.{range_tests, stack_tests, stop_tests}
 
 abbrev Fails : {T : Type 0} → Result T Fault → Type 0
 Fails r = FailsBy is_layout_cause r
@@ -39,11 +39,14 @@ shared (Limit most) h = h
 
 -- ---- ranges
 
-of_tests : {T : Type 0} (tests : List (Check Cause)) (x : T) → list_all (λ c. is_layout_cause c.fault) tests ≡ true → Fails (tested tests x)
+of_tests : {T : Type 0} (tests : List (Check Fault)) (x : T) → list_all (λ c. is_layout_cause c.fault.cause) tests ≡ true
+    → Fails (all_pass tests >> Ok x)
 of_tests [] x h = tt
-of_tests (c ∷ cs) x h = at c.passes (is_layout_cause c.fault) refl h (of_tests cs x) where
-  at : (passes allowed : Bool) → is_layout_cause c.fault ≡ allowed → (allowed && list_all (λ c. is_layout_cause c.fault) cs) ≡ true
-      → (list_all (λ c. is_layout_cause c.fault) cs ≡ true → Fails (tested cs x)) → Fails (unless (if passes then first_fault cs else Some c.fault) x)
+of_tests (c ∷ cs) x h = at c.passes (is_layout_cause c.fault.cause) refl h (of_tests cs x) where
+  at : (passes allowed : Bool) → is_layout_cause c.fault.cause ≡ allowed
+      → (allowed && list_all (λ c. is_layout_cause c.fault.cause) cs) ≡ true
+      → (list_all (λ c. is_layout_cause c.fault.cause) cs ≡ true → Fails (all_pass cs >> Ok x))
+      → Fails (unless (if passes then first_fault cs else Some c.fault) >> Ok x)
   at true true is k rest = rest k
   at false true is k rest = is
   at passes false is k rest = absurd (cc)
@@ -81,7 +84,8 @@ of_area d =
     behind _ (object d) _ (of_object _ shared d)
     (behind _ (field (codes "name") label d) _ (at_field _ shared (codes "name") label d of_label)
     (after _ (field (codes "range") range d) _ (at_field _ shared (codes "range") range d of_range) λ found.
-    after _ (field (codes "kind") (word_of kinds) d) _ (at_field _ shared (codes "kind") (word_of kinds) d (of_word _ shared kinds)) λ kind. tt))
+    after _ (field (codes "kind") (word_of kinds) d) _ (at_field _ shared (codes "kind") (word_of kinds) d (of_word _ shared kinds))
+    λ kind. tt))
 
 -- ---- pins
 
@@ -93,9 +97,11 @@ of_pin : (taken : List Pin) (d : Data) → Fails (pin taken d)
 unfolding pin
 of_pin taken d =
     behind _ (object d) _ (of_object _ shared d)
-    (after _ (field (codes "unit") (or_null name) d) _ (at_field _ shared (codes "unit") (or_null name) d (λ e. of_null _ shared name e (of_name _ shared e))) λ unit.
+    (after _ (field (codes "unit") (or_null name) d) _
+    (at_field _ shared (codes "unit") (or_null name) d (λ e. of_null _ shared name e (of_name _ shared e))) λ unit.
     after _ (field (codes "name") name d) _ (at_field _ shared (codes "name") name d (of_name _ shared)) λ bytes.
-    behind _ (under (Key (codes "name")) (unpinned taken unit bytes)) _ (below _ (Key (codes "name")) (unpinned taken unit bytes) (of_unpinned taken unit bytes))
+    behind _ (under (Key (codes "name")) (unpinned taken unit bytes)) _
+    (below _ (Key (codes "name")) (unpinned taken unit bytes) (of_unpinned taken unit bytes))
     (after _ (field (codes "address") address d) _ (at_field _ shared (codes "address") address d (of_address _ shared)) λ a. tt))
 
 of_pins_from : (taken : List Pin) (i : ℕ) (ds : List Data) → Fails (pins_from taken i ds)
@@ -113,7 +119,7 @@ of_pins d =
 
 -- ---- the whole
 
-pub layout_causes : LayoutCauses
+pub layout_causes : (d : Data) → Fails (layout d)
 unfolding layout
 layout_causes d =
     behind _ (header (codes "layout") 1 d) _ (of_header _ shared (codes "layout") 1 d)
@@ -122,6 +128,9 @@ layout_causes d =
     after _ (field (codes "stack") stack d) _ (at_field _ shared (codes "stack") stack d of_stack) λ stack.
     after _ (field (codes "r13") address d) _ (at_field _ shared (codes "r13") address d (of_address _ shared)) λ r13.
     after _ (field (codes "r2") address d) _ (at_field _ shared (codes "r2") address d (of_address _ shared)) λ r2.
-    after _ (field (codes "areas") (list MOST_AREAS area) d) _ (at_field _ shared (codes "areas") (list MOST_AREAS area) d (λ e. of_list _ shared MOST_AREAS area e of_area)) λ areas.
-    after _ (field (codes "foreign") (list MOST_FOREIGN_RANGES range) d) _ (at_field _ shared (codes "foreign") (list MOST_FOREIGN_RANGES range) d (λ e. of_list _ shared MOST_FOREIGN_RANGES range e of_range)) λ foreign.
+    after _ (field (codes "areas") (list MOST_AREAS area) d) _
+    (at_field _ shared (codes "areas") (list MOST_AREAS area) d (λ e. of_list _ shared MOST_AREAS area e of_area)) λ areas.
+    after _ (field (codes "foreign") (list MOST_FOREIGN_RANGES range) d) _
+    (at_field _ shared (codes "foreign") (list MOST_FOREIGN_RANGES range) d
+    (λ e. of_list _ shared MOST_FOREIGN_RANGES range e of_range)) λ foreign.
     after _ (field (codes "pins") pins d) _ (at_field _ shared (codes "pins") pins d of_pins) λ pins. tt)

@@ -1,5 +1,6 @@
-pub mod Search
-pub mod PinSets
-pub mod PinItems
-pub mod MeetingLemmas
 pub mod Causes
+pub mod Meetings
+pub mod Parts
+pub mod PinItems
+pub mod PinSets
+pub mod Search

@@ -28,7 +28,8 @@ module _ {X K : Type 0} (R : K → K → Ordering) (total : IsTotalOrder R) (key
     at Equal e = rw (less_before_equal a b below e, e) (lit≤ tt)
     at Greater e = rw e (index_most (R a q))
 
-  above_head : (k : K) (xs : List X) (j : ℕ) (d : X) → AllByRecursion (λ y. R k y ≡ Less) (map key xs) → j < length xs → R k (key (slice_index_or xs j d)) ≡ Less
+  above_head : (k : K) (xs : List X) (j : ℕ) (d : X) → AllByRecursion (λ y. R k y ≡ Less) (map key xs) → j < length xs
+      → R k (key (slice_index_or xs j d)) ≡ Less
   above_head k [] j d all lt = absurd (omega arith)
   above_head k (x ∷ xs) zero d all lt = all.0
   above_head k (x ∷ xs) (suc j) d all lt = above_head k xs j d all.1 (omega arith)
@@ -36,18 +37,22 @@ module _ {X K : Type 0} (R : K → K → Ordering) (total : IsTotalOrder R) (key
   pub non_decreasing : (xs : List X) → IsStrictlySortedBy R (map key xs) → IsNonDecreasingBy (λ x. ordering_index (R (key x) q)) xs
   non_decreasing [] sorted i j d le lt = absurd (omega arith)
   non_decreasing (x ∷ xs) sorted zero zero d le lt = omega arith
-  non_decreasing (x ∷ xs) sorted zero (suc j) d le lt = rises (key x) (key (slice_index_or xs j d)) (above_head (key x) xs j d (sorted_head R (key x) (map key xs) sorted) (omega arith))
+  non_decreasing (x ∷ xs) sorted zero (suc j) d le lt = rises (key x) (key (slice_index_or xs j d))
+      (above_head (key x) xs j d (sorted_head R (key x) (map key xs) sorted) (omega arith))
   non_decreasing (x ∷ xs) sorted (suc i) zero d le lt = absurd (omega arith)
-  non_decreasing (x ∷ xs) sorted (suc i) (suc j) d le lt = non_decreasing xs (sorted_tail R (key x) (map key xs) sorted) i j d (omega arith) (omega arith)
+  non_decreasing (x ∷ xs) sorted (suc i) (suc j) d le lt = non_decreasing xs (sorted_tail R (key x) (map key xs) sorted) i j d
+      (omega arith) (omega arith)
 
   abbrev pub ties : X → Bool
   ties x = is_eq (R (key x) q)
 
-  pub found : (xs : List X) (i : ℕ) (d : X) → IsStrictlySortedBy R (map key xs) → i < length xs → R (key (slice_index_or xs i d)) q ≡ Equal → find ties xs ≡ Some (slice_index_or xs i d)
+  pub found : (xs : List X) (i : ℕ) (d : X) → IsStrictlySortedBy R (map key xs) → i < length xs
+      → R (key (slice_index_or xs i d)) q ≡ Equal → find ties xs ≡ Some (slice_index_or xs i d)
   found [] i d sorted lt tie = absurd (omega arith)
   found (x ∷ xs) zero d sorted lt tie = rw tie refl
   found (x ∷ xs) (suc i) d sorted lt tie =
-      let below : R (key x) q ≡ Less = less_before_equal (key x) (key (slice_index_or xs i d)) (above_head (key x) xs i d (sorted_head R (key x) (map key xs) sorted) (omega arith)) tie in
+      let below : R (key x) q ≡ Less = less_before_equal (key x) (key (slice_index_or xs i d))
+      (above_head (key x) xs i d (sorted_head R (key x) (map key xs) sorted) (omega arith)) tie in
       rw below (found xs i d (sorted_tail R (key x) (map key xs) sorted) (omega arith) tie)
 
   pub none : (xs : List X) → ((i : ℕ) (d : X) → i < length xs → ties (slice_index_or xs i d) ≡ false) → find ties xs ≡ None
@@ -56,7 +61,8 @@ module _ {X K : Type 0} (R : K → K → Ordering) (total : IsTotalOrder R) (key
       let here : ties x ≡ false = h 0 x (omega arith) in
       rw here (none xs (λ i d lt. h (suc i) d (omega arith)))
 
-  pub absent : (xs : List X) (i : ℕ) → AllWithin (λ x. R (key x) q ≡ Less) xs 0 i → AllWithin (λ x. R (key x) q ≡ Greater) xs i (length xs) → find ties xs ≡ None
+  pub absent : (xs : List X) (i : ℕ) → AllWithin (λ x. R (key x) q ≡ Less) xs 0 i
+      → AllWithin (λ x. R (key x) q ≡ Greater) xs i (length xs) → find ties xs ≡ None
   absent xs i below above = none xs (λ j d lt. at j d lt (nat_lt j i) refl) where
     at : (j : ℕ) (d : X) → j < length xs → (t : Bool) → nat_lt j i ≡ t → ties (slice_index_or xs j d) ≡ false
     at j d lt true e = rw (below j d (omega arith) (ltb-true j i e)) refl

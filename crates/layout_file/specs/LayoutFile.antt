@@ -1,55 +1,48 @@
--- What a layout file answers.
-use Rattle.std.specs.Prelude.{◌≡◌, ℕ, List, Option, Some, None, Result, Ok, Err}
+-- What the bytes of a layout file are: a layout, or the first thing that is wrong.
+use Rattle.std.specs.Prelude.{ℕ, List, [], ◌∷◌, length, Option, Some, None, Result, Ok, Err, not, slice_index_or}
 use Rattle.serde_json.specs.Data.{Data}
-use Rattle.asm_syntax.specs.declared.path.Step.{Step}
-use Rattle.json_tree.specs.declared.fault.Cause.{Cause}
-use Rattle.json_tree.specs.declared.fault.Cause.TheVariants as causes
+use Rattle.word_ops.specs.Ranges.{Extent, extent, meets}
+use Rattle.ordered_tests.specs.Checks.{Check, check, each_check, from_to}
+use Rattle.ordered_tests.specs.Steps.{◌>>=◌, ◌>>◌, all_pass}
 use Rattle.json_tree.specs.declared.fault.Fault.{Fault}
 use Rattle.json_tree.specs.Profile.{tree_of}
-use Rattle.layout_file.specs.declared.error.LayoutError.{LayoutError}
-use Rattle.layout_file.specs.declared.error.LayoutError.TheVariants.{NotJson, Missing, WrongKind, OutOfRange, UnknownWord, Version, RangeOrder, RangeMeets, Unaligned, Memory, Limit}
-use Rattle.layout_file.specs.Layouts.{Layout, ranges}
-use Rattle.layout_file.specs.Meetings.{first_meeting}
+use Rattle.layout_model.specs.Layouts.{Layout, ranges}
 use Rattle.layout_file.specs.LayoutTree.{layout}
 
--- the error of a cause. Refused and Shape are no causes of layouts (`LayoutCauses`)
-abbrev pub error_at : Cause → List Step → LayoutError
-error_at causes.Missing path = Missing path
-error_at causes.WrongKind path = WrongKind path
-error_at causes.OutOfRange path = OutOfRange path
-error_at causes.UnknownWord path = UnknownWord path
-error_at causes.Refused path = UnknownWord path
-error_at (causes.Shape shape) path = OutOfRange path
-error_at causes.Version path = Version path
-error_at causes.RangeOrder path = RangeOrder path
-error_at causes.Unaligned path = Unaligned path
-error_at (causes.Limit limit) path = Limit path limit
+-- the bytes are no JSON; a place of the tree is at fault; two ranges meet, by their numbers
+pub data Refusal : Type 0 where
+  NoTree : Refusal
+  At : Fault → Refusal
+  Meet : ℕ → ℕ → Refusal
 
-abbrev pub error_of : Fault → LayoutError
-error_of fault = error_at fault.cause fault.path
+abbrev pub tree_in : Option Data → Result Data Refusal
+tree_in None = Err NoTree
+tree_in (Some d) = Ok d
 
--- the pair of ranges that meets, where one does
-abbrev pub unless_met : Option (ℕ × ℕ) → Layout → Result Layout LayoutError
-unless_met None layout = Ok layout
-unless_met (Some pair) layout = Err (RangeMeets pair.0 pair.1)
+abbrev pub placed : {T : Type 0} → Result T Fault → Result T Refusal
+placed (Ok x) = Ok x
+placed (Err fault) = Err (At fault)
 
--- a layout's ranges are pairwise apart
-abbrev pub apart : Layout → Result Layout LayoutError
-apart layout = unless_met (first_meeting (ranges layout)) layout
+abbrev pub range_at : List Extent → ℕ → Extent
+range_at ranges i = slice_index_or ranges i (extent 0 0)
 
-abbrev pub layout_read : Result Layout Fault → Result Layout LayoutError
-layout_read (Ok layout) = apart layout
-layout_read (Err fault) = Err (error_of fault)
+abbrev pub pair_test : List Extent → ℕ → ℕ → List (Check Refusal)
+pair_test ranges j i = check (not (meets (range_at ranges i) (range_at ranges j))) (Meet i j) ∷ []
 
-abbrev pub of_tree : Option Data → Result Layout LayoutError
-of_tree None = Err NotJson
-of_tree (Some d) = layout_read (layout d)
+-- the range j with each earlier one
+abbrev pub earlier_tests : List Extent → ℕ → List (Check Refusal)
+earlier_tests ranges j = each_check (pair_test ranges j) (from_to 0 j)
 
--- the layout that bytes are, or the first error
-unfoldable pub layout_file : List ℕ → Result Layout LayoutError
-layout_file bytes = of_tree (tree_of bytes)
+-- no two ranges meet: of two that do, the least later one is told, and then the least earlier one
+abbrev pub apart_tests : List Extent → List (Check Refusal)
+apart_tests ranges = each_check (earlier_tests ranges) (from_to 0 (length ranges))
 
--- the answer is the one that is due, unless memory ran out
-abbrev pub Answers : Result Layout LayoutError → Result Layout LayoutError → Type 0
-Answers (Err Memory) due = Unit {0}
-Answers answer due = answer ≡ due
+abbrev pub apart : Layout → Result Layout Refusal
+apart layout = all_pass (apart_tests (ranges layout)) >> Ok layout
+
+-- the layout that bytes are, or the first thing that is wrong
+unfoldable pub layout_file : List ℕ → Result Layout Refusal
+layout_file bytes = do
+  d ← tree_in (tree_of bytes)
+  read ← placed (layout d)
+  apart read

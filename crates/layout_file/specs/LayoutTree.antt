@@ -6,16 +6,18 @@ use Rattle.asm_syntax.specs.declared.path.Step.TheVariants.{Key, Index}
 use Rattle.serde_json.specs.Data.{Data}
 use Rattle.json_tree.specs.declared.fault.Cause.TheVariants.{OutOfRange}
 use Rattle.json_tree.specs.declared.fault.Fault.{Fault}
-use Rattle.json_tree.specs.Reading.{◌>>=◌, ◌>>◌, fail, under, object, field, text, or_null, name, word_of}
+use Rattle.ordered_tests.specs.Steps.{◌>>=◌, ◌>>◌, all_pass}
+use Rattle.json_tree.specs.Reading.{fail, under, object, field, text, or_null, name, word_of}
 use Rattle.json_tree.specs.Arrays.{items, limited, list, tuple, nth}
 use Rattle.json_tree.specs.Addresses.{address}
 use Rattle.json_tree.specs.Profile.{header}
-use Rattle.layout_file.specs.declared.kind.AreaKind.{AreaKind}
-use Rattle.layout_file.specs.declared.kind.AreaKind.TheVariants.{Code, Fixed, Writable, Sda13, Sda2, Sda0}
-use Rattle.layout_file.specs.declared.limits.TheConstants.{MOST_AREAS, MOST_FOREIGN_RANGES, MOST_PINS}
-use Rattle.layout_file.specs.Layouts.{Extent, extent, Area, Pin, Layout}
+use Rattle.word_ops.specs.Ranges.{Extent, extent}
+use Rattle.limits.specs.declared.TheConstants.{MOST_AREAS, MOST_FOREIGN_RANGES, MOST_PINS}
+use Rattle.layout_model.specs.declared.kind.AreaKind.{AreaKind}
+use Rattle.layout_model.specs.declared.kind.AreaKind.TheVariants.{Code, Fixed, Writable, Sda13, Sda2, Sda0}
+use Rattle.layout_model.specs.Layouts.{Area, Pin, Layout}
 use Rattle.layout_file.specs.Pins.{is_pinned, with_pin}
-use Rattle.layout_file.specs.RangeTests.{range_tests, stack_tests, stop_tests, tested}
+use Rattle.layout_file.specs.RangeTests.{range_tests, stack_tests, stop_tests}
 
 -- ---- ranges
 
@@ -29,17 +31,20 @@ ends d = do
 unfoldable pub range : Data → Result Extent Fault
 range d = do
   range ← ends d
-  tested (range_tests range) range
+  all_pass (range_tests range)
+  Ok range
 
 unfoldable pub stack : Data → Result Extent Fault
 stack d = do
   stack ← ends d
-  tested (stack_tests stack) stack
+  all_pass (stack_tests stack)
+  Ok stack
 
 unfoldable pub stop : Data → Result ℕ Fault
 stop d = do
   stop ← address d
-  tested (stop_tests stop) stop
+  all_pass (stop_tests stop)
+  Ok stop
 
 -- ---- areas
 

@@ -1,10 +1,8 @@
-pub mod Layouts
 pub mod Pins
 pub mod PinEntries
 pub mod RangeTests
-pub mod Meetings
 pub mod LayoutTree
 pub mod LayoutFile
 pub mod Causes
+pub mod Errors
 pub mod Seen
-pub mod Kept

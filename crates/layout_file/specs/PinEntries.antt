@@ -6,7 +6,7 @@ use Rattle.std.specs.Option.{option_cmp}
 use Rattle.std.specs.String.{string_cmp}
 use Rattle.layout_file.specs.declared.pins.PinKey.{PinKey}
 use Rattle.layout_file.specs.declared.pins.Sought.{Sought}
-use Rattle.layout_file.specs.Layouts.{Pin}
+use Rattle.layout_model.specs.Layouts.{Pin}
 use Rattle.layout_file.specs.Pins.{sought}
 
 abbrev pub pin_of_entry : PinKey × ℕ → Pin

@@ -6,7 +6,7 @@ use Rattle.std.specs.Cmp.Lexicographic.{slice_cmp}
 use Rattle.std.specs.Option.{option_cmp}
 use Rattle.std.specs.BTreeSet.{replace_key}
 use Rattle.std.specs.List.{list_any}
-use Rattle.layout_file.specs.Layouts.{Pin, is_pin_of}
+use Rattle.layout_model.specs.Layouts.{Pin, is_pin_of}
 
 abbrev pub bytes_cmp : List ℕ → List ℕ → Ordering
 bytes_cmp = slice_cmp nat_cmp

@@ -1,9 +1,10 @@
 //! Why a text is no layout.
 
+ghost use Rattle.std.specs.Prelude.{◌≡◌};
+
 use asm_syntax::path::Path;
 
 /// The first error of a text that is no layout, in the order in which layouts are read.
-/// Numbered from 1 in the order of the variants.
 #[derive(Debug, Drop)]
 pub enum LayoutError {
     NotJson,
@@ -21,4 +22,27 @@ pub enum LayoutError {
     Memory,
     /// More than so many items, or bytes of the stack.
     Limit(Path, u32),
+}
+
+impl LayoutError {
+    ghost use Rattle.layout_file.specs.Errors.{number_of};
+
+    /// The number by which reports name the error.
+    pub fn number(&self) -> u32
+        ensures { result ≡ number_of self.now }
+    {
+        match self {
+            LayoutError::NotJson => 1,
+            LayoutError::Missing(_) => 2,
+            LayoutError::WrongKind(_) => 3,
+            LayoutError::OutOfRange(_) => 4,
+            LayoutError::UnknownWord(_) => 5,
+            LayoutError::Version(_) => 6,
+            LayoutError::RangeOrder(_) => 7,
+            LayoutError::RangeMeets(..) => 8,
+            LayoutError::Unaligned(_) => 9,
+            LayoutError::Memory => 10,
+            LayoutError::Limit(..) => 11,
+        }
+    }
 }

@@ -1,10 +1,9 @@
 //! Layouts: what a program's address space has, from a JSON text.
 #![tactic(auto)]
 
+pub mod area;
 pub mod error;
-pub mod kind;
 pub mod layout;
-pub mod limits;
 mod meeting;
 mod pins;
 mod read;

@@ -5,18 +5,18 @@ ghost use Rattle.serde_json.specs.View.{view};
 ghost use Rattle.json_tree.specs.Answers.{Gives, GivesAs};
 ghost use Rattle.json_tree.specs.Reading.{field, if_there};
 ghost use Rattle.layout_file.specs.LayoutTree.{pin, unpinned, pins, pins_from};
-ghost use Rattle.layout_file.specs.Layouts.{is_pin_of, pin_in};
+ghost use Rattle.layout_model.specs.Layouts.{is_pin_of, pin_in};
 ghost use Rattle.layout_file.specs.Pins.{is_pinned, with_pin, pin_cmp};
 ghost use Rattle.std.specs.List.Sorted.{IsBinarySearchResult, IsSearchInRange, IsStrictlySortedBy};
 ghost use Rattle.std.specs.Map.{keys_of};
 ghost use Rattle.layout_file.specs.PinEntries.{key_cmp, pin_of_entry, pin_sought};
 
-use crate::limits;
 use asm_syntax::name::Name;
 use json_tree::address::Address;
 use json_tree::array::{items, limited};
 use json_tree::fault::{Cause, ReadError};
 use json_tree::tree::{Tree, at_index, at_key, field, object};
+use limits::MOST_PINS;
 use serde_json::Value;
 use std::alloc::{AllocError, Global};
 use std::cmp::Ordering;
@@ -38,7 +38,7 @@ pub struct ReadPin {
 }
 
 impl Model for ReadPin {
-    ghost use Rattle.layout_file.specs.Layouts.{Pin};
+    ghost use Rattle.layout_model.specs.Layouts.{Pin};
     ghost use Rattle.layout_file.specs.PinEntries.{pin_of_entry};
 
     ghost Value = { Pin };
@@ -54,7 +54,7 @@ pub struct PinMap {
 
 impl Model for PinMap {
     ghost use Rattle.std.specs.Prelude.{List, map};
-    ghost use Rattle.layout_file.specs.Layouts.{Pin};
+    ghost use Rattle.layout_model.specs.Layouts.{Pin};
     ghost use Rattle.layout_file.specs.PinEntries.{pin_of_entry};
 
     ghost Value = { List Pin };
@@ -71,7 +71,7 @@ pub struct Pins {
 impl Model for Pins {
     ghost use Rattle.std.specs.Prelude.{List, map};
     ghost use Rattle.std.specs.List.Sorted.{IsStrictlySortedBy};
-    ghost use Rattle.layout_file.specs.Layouts.{Pin};
+    ghost use Rattle.layout_model.specs.Layouts.{Pin};
     ghost use Rattle.layout_file.specs.Pins.{pin_cmp};
     ghost use Rattle.layout_file.specs.PinEntries.{pin_of_entry};
 
@@ -235,7 +235,7 @@ impl Tree for Pins {
 
     fn read(alloc: Global, tree: &Value) -> Result<Pins, ReadError> {
         let values = items(alloc, tree)?;
-        limited(alloc, values, limits::MOST_PINS)?;
+        limited(alloc, values, MOST_PINS)?;
         let pins = read_each(alloc, values)?;
         Ok(pins.into_pins(alloc)?)
     }

@@ -1,30 +1,31 @@
 //! Reading of layouts.
 
-ghost use Rattle.std.specs.Prelude.{◌≡◌, IfOk};
-ghost use Rattle.serde_json.specs.View.{view};
-ghost use Rattle.json_tree.specs.Reading.{word_of};
-ghost use Rattle.layout_file.specs.LayoutTree.{label, kinds, area, layout};
+ghost use Rattle.std.specs.Prelude.{◌≡◌, Some, IfOk, IsTrue};
 ghost use Rattle.std.specs.List.{list_all};
+ghost use Rattle.serde_json.specs.View.{view};
 ghost use Rattle.asm_syntax.specs.Names.{is_name_byte};
-ghost use Rattle.layout_file.specs.Layouts.{ranges};
-ghost use Rattle.layout_file.specs.Meetings.{first_meeting, ArePairwiseApart};
-ghost use Rattle.layout_file.specs.LayoutFile.{Answers, error_of, apart, layout_read, layout_file};
-ghost use Rattle.layout_file.specs.Causes.{LayoutCauses};
+ghost use Rattle.json_tree.specs.Reading.{word_of};
+ghost use Rattle.layout_model.specs.Facts.{AreParts, IsLayout};
+ghost use Rattle.layout_file.specs.LayoutTree.{label, kinds, area, layout};
+ghost use Rattle.layout_file.specs.LayoutFile.{At, placed, apart, layout_file};
+ghost use Rattle.layout_file.specs.Errors.{Answers, told};
+ghost use Rattle.layout_file.specs.Causes.{is_layout_cause};
 
+use crate::area::KeptArea;
 use crate::error::LayoutError;
-use crate::kind::AreaKind;
-use crate::layout::{KeptArea, Layout};
-use crate::limits;
-use crate::meeting::first_meeting;
+use crate::layout::{Layout, Parts};
+use crate::meeting::are_apart;
 use crate::span::{Stack, Stop};
 use json_tree::address::Address;
 use json_tree::array::list_field;
 use json_tree::fault::{Cause, Fault, ReadError};
 use json_tree::profile::{NoTree, header, tree_of};
 use json_tree::text::text;
-use json_tree::tree::{Tree, field, object};
+use json_tree::tree::{Reads, Tree, field, field_by, object};
+use layout_model::kind::AreaKind;
+use limits::{MOST_AREAS, MOST_FOREIGN_RANGES};
 use serde_json::Value;
-use std::alloc::{AllocError, Global};
+use std::alloc::Global;
 use std::marker::Model;
 
 /// What an area is called, which is tested and forgotten.
@@ -57,8 +58,11 @@ fn all_visible(bytes: &[u8]) -> bool
     bytes.iter().all(|byte| 0x21 <= *byte && *byte <= 0x7e)
 }
 
+/// The words of areas.
+struct Kinds;
+
 #[tactic(auto, unfolding(json_tree::specs::Reading::word_of))]
-impl Tree for AreaKind {
+impl Reads<AreaKind> for Kinds {
     ghost reads = { word_of kinds };
 
     fn read(alloc: Global, tree: &Value) -> Result<AreaKind, ReadError> {
@@ -82,28 +86,28 @@ impl Tree for KeptArea {
         object(alloc, tree)?;
         let _label: Label = field(alloc, tree, "name")?;
         let span = field(alloc, tree, "range")?;
-        let kind = field(alloc, tree, "kind")?;
+        let kind = field_by::<Kinds, AreaKind>(alloc, tree, "kind")?;
         Ok(KeptArea { span, kind })
     }
 }
 
 #[tactic(auto, unfolding(crate::specs::LayoutTree::layout))]
-impl Tree for Layout {
+impl Tree for Parts {
     ghost reads = { layout };
 
-    fn read(alloc: Global, tree: &Value) -> Result<Layout, ReadError> {
+    fn read(alloc: Global, tree: &Value) -> Result<Parts, ReadError> {
         header(alloc, tree, "layout", 1)?;
         let entry = field(alloc, tree, "entry")?;
         let stop: Stop = field(alloc, tree, "stop")?;
         let stack: Stack = field(alloc, tree, "stack")?;
         let r13: Address = field(alloc, tree, "r13")?;
         let r2: Address = field(alloc, tree, "r2")?;
-        let areas = list_field(alloc, tree, "areas", limits::MOST_AREAS)?;
-        let foreign = list_field(alloc, tree, "foreign", limits::MOST_FOREIGN_RANGES)?;
+        let areas = list_field(alloc, tree, "areas", MOST_AREAS)?;
+        let foreign = list_field(alloc, tree, "foreign", MOST_FOREIGN_RANGES)?;
         let pins = field(alloc, tree, "pins")?;
-        Ok(Layout {
+        Ok(Parts {
             entry,
-            stop: stop.place(),
+            stop: stop.address,
             stack,
             r13: r13.value(),
             r2: r2.value(),
@@ -115,62 +119,58 @@ impl Tree for Layout {
 }
 
 fn error_of(fault: Fault) -> LayoutError
-    ensures { result ≡ error_of fault }
+    requires { IsTrue (is_layout_cause fault.cause) }
+    ensures { told result ≡ Some (At fault) }
 {
     let path = fault.path.into_path();
     match fault.cause {
         Cause::Missing => LayoutError::Missing(path),
         Cause::WrongKind => LayoutError::WrongKind(path),
-        Cause::OutOfRange | Cause::Shape(_) => LayoutError::OutOfRange(path),
-        Cause::UnknownWord | Cause::Refused => LayoutError::UnknownWord(path),
+        Cause::OutOfRange => LayoutError::OutOfRange(path),
+        Cause::UnknownWord => LayoutError::UnknownWord(path),
         Cause::Version => LayoutError::Version(path),
         Cause::RangeOrder => LayoutError::RangeOrder(path),
         Cause::Unaligned => LayoutError::Unaligned(path),
         Cause::Limit(limit) => LayoutError::Limit(path, limit),
+        Cause::Shape(_) | Cause::Refused => unreachable!(),
     }
 }
 
-fn layout_of(alloc: Global, tree: &Value) -> Result<Layout, LayoutError>
-    ensures answers { Answers result (layout_read (layout (view tree.now))) }
-    ensures apart { IfOk result (λ kept. ArePairwiseApart (ranges kept)) }
+#[tactic(auto, using(crate::proofs::Causes::layout_causes))]
+fn parts_of(alloc: Global, tree: &Value) -> Result<Parts, LayoutError>
+    ensures answers { Answers result (placed (layout (view tree.now))) }
+    ensures parts { IfOk result AreParts }
 {
     match Tree::read(alloc, tree) {
-        Ok(layout) => apart(alloc, layout),
+        Ok(parts) => Ok(parts),
         Err(ReadError::Memory) => Err(LayoutError::Memory),
         Err(ReadError::Fault(fault)) => Err(error_of(fault)),
     }
 }
 
-/// The layout, where no two of its ranges meet.
-#[tactic(auto, using(crate::proofs::MeetingLemmas::apart_from_none))]
-fn apart(alloc: Global, layout: Layout) -> Result<Layout, LayoutError>
-    ensures answers { Answers result (apart layout) }
-    ensures apart { IfOk result (λ kept. ArePairwiseApart (ranges kept)) }
+/// The layout of parts whose ranges do not meet.
+fn layout_of(alloc: Global, parts: Parts) -> Result<Layout, LayoutError>
+    requires { AreParts parts }
+    ensures answers { Answers result (apart parts) }
+    ensures layout { IfOk result IsLayout }
 {
-    match meeting(alloc, &layout) {
-        Ok(None) => Ok(layout),
-        Ok(Some((earlier, later))) => Err(LayoutError::RangeMeets(earlier, later)),
-        Err(_) => Err(LayoutError::Memory),
-    }
-}
-
-fn meeting(alloc: Global, layout: &Layout) -> Result<Option<(u32, u32)>, AllocError>
-    ensures { IfOk result (λ pair. pair ≡ first_meeting (ranges layout.now)) }
-{
-    let ranges = layout.ranges(alloc)?;
-    Ok(first_meeting(&ranges))
+    let Ok(ranges) = parts.ranges(alloc) else {
+        return Err(LayoutError::Memory);
+    };
+    are_apart(&ranges)?;
+    Ok(Layout::of_parts(parts))
 }
 
 /// The layout that the bytes of a file are.
-#[tactic(auto, unfolding(crate::specs::LayoutFile::layout_file), using(crate::proofs::Causes::layout_causes))]
+#[tactic(auto, unfolding(crate::specs::LayoutFile::layout_file))]
 pub fn read_layout(alloc: Global, text: &[u8]) -> Result<Layout, LayoutError>
     ensures answers { Answers result (layout_file text.now) }
-    ensures apart { IfOk result (λ layout. ArePairwiseApart (ranges layout)) }
-    ensures causes { LayoutCauses }
+    ensures layout { IfOk result IsLayout }
 {
-    match tree_of(alloc, text) {
-        Ok(tree) => layout_of(alloc, &tree),
-        Err(NoTree::NotJson) => Err(LayoutError::NotJson),
-        Err(NoTree::Memory) => Err(LayoutError::Memory),
-    }
+    let tree = match tree_of(alloc, text) {
+        Ok(tree) => tree,
+        Err(NoTree::NotJson) => return Err(LayoutError::NotJson),
+        Err(NoTree::Memory) => return Err(LayoutError::Memory),
+    };
+    layout_of(alloc, parts_of(alloc, &tree)?)
 }

@@ -1,19 +1,20 @@
 //! Ranges as a layout keeps them, and their tests.
 
-ghost use Rattle.std.specs.Prelude.{◌≡◌, ◌+◌, ◌≤◌, ◌<◌, ◌^◌, IsNone};
+ghost use Rattle.std.specs.Prelude.{◌≡◌, ◌+◌, ◌≤◌, ◌<◌, ◌^◌, OnOk};
 ghost use Rattle.serde_json.specs.View.{view};
-ghost use Rattle.ordered_tests.specs.Checks.{first_fault};
-ghost use Rattle.json_tree.specs.Answers.{GivesAs};
+ghost use Rattle.word_ops.specs.Ranges.{extent, holds};
+ghost use Rattle.word_ops.specs.Seen.{extent_of};
+ghost use Rattle.ordered_tests.specs.Steps.{all_pass};
+ghost use Rattle.json_tree.specs.Answers.{Gives, GivesAs};
+ghost use Rattle.layout_model.specs.Facts.{IsRange};
 ghost use Rattle.layout_file.specs.LayoutTree.{ends, range, stack, stop};
-ghost use Rattle.layout_file.specs.Layouts.{extent, holds};
-ghost use Rattle.layout_file.specs.RangeTests.{range_tests, stack_tests, stop_tests, IsRange, IsStack, IsStop};
-ghost use Rattle.layout_file.specs.Seen.{extent_of};
+ghost use Rattle.layout_file.specs.RangeTests.{range_tests, stack_tests, stop_tests};
 
-use crate::limits;
 use json_tree::address::Address;
 use json_tree::array::{nth, tuple};
 use json_tree::fault::{Cause, ReadError};
 use json_tree::tree::Tree;
+use limits::{LEAST_STACK_BYTES, MOST_RANGE_END, MOST_STACK_BYTES};
 use serde_json::Value;
 use std::alloc::Global;
 use std::marker::Model;
@@ -27,8 +28,8 @@ pub struct Span {
 }
 
 impl Model for Span {
-    ghost use Rattle.layout_file.specs.Layouts.{Extent, extent};
-    ghost use Rattle.layout_file.specs.RangeTests.{IsRange};
+    ghost use Rattle.word_ops.specs.Ranges.{Extent, extent};
+    ghost use Rattle.layout_model.specs.Facts.{IsRange};
 
     ghost Value = { Extent };
 
@@ -58,57 +59,29 @@ impl Span {
 /// The range of the stack.
 #[derive(Debug, Drop)]
 pub struct Stack {
-    lo: u32,
-    hi: u32,
+    pub span: Span,
 }
 
 impl Model for Stack {
-    ghost use Rattle.layout_file.specs.Layouts.{Extent, extent};
-    ghost use Rattle.layout_file.specs.RangeTests.{IsStack};
+    ghost use Rattle.word_ops.specs.Ranges.{Extent};
 
     ghost Value = { Extent };
 
-    ghost view = { λ stack. extent stack.lo stack.hi };
-
-    ghost invariant = { λ stack. IsStack (extent stack.lo stack.hi) };
-}
-
-impl Stack {
-    pub fn range(&self) -> Range
-        ensures value { extent_of result ≡ self.now }
-        ensures stack { IsStack self.now }
-    {
-        Range {
-            lo: u64::from(self.lo),
-            hi: u64::from(self.hi),
-        }
-    }
+    ghost view = { λ stack. stack.span };
 }
 
 /// The stop point, from which four bytes are a range.
 #[derive(Debug, Drop)]
 pub struct Stop {
-    place: u32,
+    pub address: u32,
 }
 
 impl Model for Stop {
     ghost use Rattle.std.specs.Prelude.{ℕ};
-    ghost use Rattle.layout_file.specs.RangeTests.{IsStop};
 
     ghost Value = { ℕ };
 
-    ghost view = { λ stop. stop.place };
-
-    ghost invariant = { λ stop. IsStop stop.place };
-}
-
-impl Stop {
-    pub fn place(&self) -> u32
-        ensures value { result ≡ self.now }
-        ensures stop { IsStop self.now }
-    {
-        self.place
-    }
+    ghost view = { λ stop. stop.address };
 }
 
 #[tactic(auto, unfolding(crate::specs::LayoutTree::ends))]
@@ -121,47 +94,43 @@ fn ends(alloc: Global, tree: &Value) -> Result<(u32, u32), ReadError>
     Ok((lo.value(), hi.value()))
 }
 
-fn range_fault(lo: u64, hi: u64) -> Option<Cause>
-    ensures fault { result ≡ first_fault (range_tests (extent lo hi)) }
-    ensures range { IsNone result → IsRange (extent lo hi) }
+fn range_passes(alloc: Global, lo: u64, hi: u64) -> Result<(), ReadError>
+    ensures gives { Gives result (all_pass (range_tests (extent lo hi))) }
+    ensures range { OnOk result (IsRange (extent lo hi)) }
 {
-    if 1 <= lo && lo < hi && hi <= 0xffff_fff0 {
-        None
+    if 1 <= lo && lo < hi && hi <= u64::from(MOST_RANGE_END) {
+        Ok(())
     } else {
-        Some(Cause::RangeOrder)
+        Err(ReadError::here(alloc, Cause::RangeOrder))
     }
 }
 
-fn stack_fault(lo: u32, hi: u32) -> Option<Cause>
-    ensures fault { result ≡ first_fault (stack_tests (extent lo hi)) }
-    ensures stack { IsNone result → IsStack (extent lo hi) }
+fn stack_passes(alloc: Global, lo: u32, hi: u32) -> Result<(), ReadError>
+    ensures gives { Gives result (all_pass (stack_tests (extent lo hi))) }
+    ensures range { OnOk result (IsRange (extent lo hi)) }
 {
-    if let Some(cause) = range_fault(u64::from(lo), u64::from(hi)) {
-        return Some(cause);
-    }
+    range_passes(alloc, u64::from(lo), u64::from(hi))?;
     let size = hi - lo;
-    if size < 16 {
-        Some(Cause::RangeOrder)
-    } else if limits::MOST_STACK_BYTES < size {
-        Some(Cause::Limit(limits::MOST_STACK_BYTES))
+    if size < LEAST_STACK_BYTES {
+        Err(ReadError::here(alloc, Cause::RangeOrder))
+    } else if MOST_STACK_BYTES < size {
+        Err(ReadError::here(alloc, Cause::Limit(MOST_STACK_BYTES)))
     } else if hi % 16 != 0 {
-        Some(Cause::Unaligned)
+        Err(ReadError::here(alloc, Cause::Unaligned))
     } else {
-        None
+        Ok(())
     }
 }
 
-fn stop_fault(stop: u32) -> Option<Cause>
-    ensures fault { result ≡ first_fault (stop_tests stop) }
-    ensures stop { IsNone result → IsStop stop }
+fn stop_passes(alloc: Global, stop: u32) -> Result<(), ReadError>
+    ensures { Gives result (all_pass (stop_tests stop)) }
 {
-    if let Some(cause) = range_fault(u64::from(stop), u64::from(stop) + 4) {
-        return Some(cause);
+    range_passes(alloc, u64::from(stop), u64::from(stop) + 4)?;
+    if stop % 4 == 0 {
+        Ok(())
+    } else {
+        Err(ReadError::here(alloc, Cause::Unaligned))
     }
-    if stop % 4 != 0 {
-        return Some(Cause::Unaligned);
-    }
-    None
 }
 
 #[tactic(auto, unfolding(crate::specs::LayoutTree::range))]
@@ -170,10 +139,8 @@ impl Tree for Span {
 
     fn read(alloc: Global, tree: &Value) -> Result<Span, ReadError> {
         let (lo, hi) = ends(alloc, tree)?;
-        match range_fault(u64::from(lo), u64::from(hi)) {
-            None => Ok(Span { lo, hi }),
-            Some(cause) => Err(ReadError::here(alloc, cause)),
-        }
+        range_passes(alloc, u64::from(lo), u64::from(hi))?;
+        Ok(Span { lo, hi })
     }
 }
 
@@ -183,10 +150,10 @@ impl Tree for Stack {
 
     fn read(alloc: Global, tree: &Value) -> Result<Stack, ReadError> {
         let (lo, hi) = ends(alloc, tree)?;
-        match stack_fault(lo, hi) {
-            None => Ok(Stack { lo, hi }),
-            Some(cause) => Err(ReadError::here(alloc, cause)),
-        }
+        stack_passes(alloc, lo, hi)?;
+        Ok(Stack {
+            span: Span { lo, hi },
+        })
     }
 }
 
@@ -196,10 +163,8 @@ impl Tree for Stop {
 
     fn read(alloc: Global, tree: &Value) -> Result<Stop, ReadError> {
         let address: Address = Tree::read(alloc, tree)?;
-        let place = address.value();
-        match stop_fault(place) {
-            None => Ok(Stop { place }),
-            Some(cause) => Err(ReadError::here(alloc, cause)),
-        }
+        let address = address.value();
+        stop_passes(alloc, address)?;
+        Ok(Stop { address })
     }
 }

@@ -1,10 +1,11 @@
 //! Layouts that are read, and texts that are refused.
 
 use crate::error::LayoutError;
-use crate::kind::AreaKind;
+use crate::layout::Layout;
 use crate::read_layout;
 use asm_syntax::name::Name;
 use asm_syntax::path::Step;
+use layout_model::kind::AreaKind;
 use std::alloc::{AllocError, Global};
 use std::test::*;
 
@@ -70,9 +71,9 @@ fn step_text(alloc: Global, step: &Step) -> Result<String, AllocError> {
     }
 }
 
-/// The word of an error and its path.
+/// The number of an error, its word and its path.
 fn told(alloc: Global, error: &LayoutError) -> Result<String, AllocError> {
-    let mut text = String::from_str(alloc, word_of(error))?;
+    let mut text = format!(in alloc; "{} {}", error.number(), word_of(error))?;
     for step in steps_of(error) {
         text.push_str(step_text(alloc, step)?.as_str())?;
     }
@@ -134,109 +135,174 @@ fn a_layout_answers(rt: HostRuntime) -> Result<(), Fail> {
 }
 
 /// A part of the layout, what stands in its place, and the answer.
-static PARTS: [(&str, &str, &str); 38] = [
+static PARTS: [(&str, &str, &str); 51] = [
     ("{", "{", "ok"),
-    (r#""0x20010000""#, r#""0x20010008""#, "unaligned/stack"),
-    (r#""0x20010000""#, r#""0x20000008""#, "range-order/stack"),
-    (r#""0x20010000""#, r#""0x21000018""#, "limit/stack"),
+    (r#""0x20010000""#, r#""0x20010008""#, "9 unaligned/stack"),
+    (r#""0x20010000""#, r#""0x20000008""#, "7 range-order/stack"),
+    (r#""0x20010000""#, r#""0x21000018""#, "11 limit/stack"),
     (r#""0x20010000""#, r#""0x21000000""#, "ok"),
     (
         r#""0x20010000"]"#,
         r#""0x20010000",0]"#,
-        "out-of-range/stack",
+        "4 out-of-range/stack",
     ),
     (
         r#"["0x20000000","#,
         r#"["20000000","#,
-        "out-of-range/stack/0",
+        "4 out-of-range/stack/0",
     ),
-    (r#""0x10000000""#, r#""0xffffffee""#, "range-order/stop"),
+    (r#""0x10000000""#, r#""0xffffffee""#, "7 range-order/stop"),
     (r#""0x10000000""#, r#""0xFFFFFFEC""#, "ok"),
-    (r#""0x10000000""#, "0", "range-order/stop"),
-    (r#""0x10000000""#, r#""0x10000002""#, "unaligned/stop"),
+    (r#""0x10000000""#, "0", "7 range-order/stop"),
+    (r#""0x10011000""#, r#""0xfffffff0""#, "8 range-meets"),
+    (
+        r#"["0x10010000","0x10011000"]"#,
+        r#"["0xffffff00","0xfffffff0"]"#,
+        "ok",
+    ),
+    (
+        r#"["0x10010000","0x10011000"]"#,
+        r#"["0x10010000","0x10010000"]"#,
+        "7 range-order/areas/0/range",
+    ),
+    (
+        r#"["0x10010000","0x10011000"]"#,
+        r#"["0x10010000","0x10010001"]"#,
+        "ok",
+    ),
+    (
+        r#"["0x10020000","0x10020100"]"#,
+        r#"[0,1]"#,
+        "7 range-order/foreign/0",
+    ),
+    (
+        r#"["0x10020000","0x10020100"]"#,
+        r#"["0x","0x10020100"]"#,
+        "4 out-of-range/foreign/0/0",
+    ),
+    (
+        r#"["0x10020000","0x10020100"]"#,
+        r#"["0X10020000","0x10020100"]"#,
+        "4 out-of-range/foreign/0/0",
+    ),
+    (
+        r#"["0x10020000","0x10020100"]"#,
+        r#"["0x10020000",{}]"#,
+        "3 wrong-kind/foreign/0/1",
+    ),
+    (
+        r#"["0x10020000","0x10020100"]"#,
+        "[268566528,268566784]",
+        "ok",
+    ),
+    (
+        r#"["0x20000000","0x20010000"]"#,
+        r#"["0x2000fff0","0x20010000"]"#,
+        "ok",
+    ),
+    (
+        r#"["0x20000000","0x20010000"]"#,
+        r#"["0x2000fff1","0x20010000"]"#,
+        "7 range-order/stack",
+    ),
+    (
+        r#"["0x20000000","0x20010000"]"#,
+        r#"["0x10010800","0x20000001"]"#,
+        "11 limit/stack",
+    ),
+    (
+        r#""0x10018000""#,
+        r#""0x""#,
+        "4 out-of-range/pins/0/address",
+    ),
+    (r#""0x10000000""#, r#""0x10000002""#, "9 unaligned/stop"),
     (
         r#"["0x10010000","0x10011000"]"#,
         r#"["0x10011000","0x10010000"]"#,
-        "range-order/areas/0/range",
+        "7 range-order/areas/0/range",
     ),
     (
         r#""0x10011000""#,
         r#""0xfffffff1""#,
-        "range-order/areas/0/range",
+        "7 range-order/areas/0/range",
     ),
     (
         r#"["0x10020000","0x10020100"]"#,
         r#"["0x10010800","0x10012000"]"#,
-        "range-meets",
+        "8 range-meets",
     ),
     (
         r#"["0x10020000","0x10020100"]"#,
         r#"["0x0ffffffc","0x20000001"]"#,
-        "range-meets",
+        "8 range-meets",
     ),
     (
         r#"["0x10020000","0x10020100"]"#,
         r#"["0x10000003","0x10000004"]"#,
-        "range-meets",
+        "8 range-meets",
     ),
     (
         r#""kind":"code""#,
         r#""kind":"Code""#,
-        "unknown-word/areas/0/kind",
+        "5 unknown-word/areas/0/kind",
     ),
     (
         r#""name":"text""#,
         r#""name":"""#,
-        "out-of-range/areas/0/name",
+        "4 out-of-range/areas/0/name",
     ),
     (
         r#""name":"text""#,
         r#""name":"the text""#,
-        "out-of-range/areas/0/name",
+        "4 out-of-range/areas/0/name",
     ),
-    (r#","foreign":"#, r#","foreigner":"#, "missing/foreign"),
-    (r#""r2":268730368"#, r#""r2":4294967296"#, "out-of-range/r2"),
+    (r#","foreign":"#, r#","foreigner":"#, "2 missing/foreign"),
+    (
+        r#""r2":268730368"#,
+        r#""r2":4294967296"#,
+        "4 out-of-range/r2",
+    ),
     (
         r#""r13":"0x10038000""#,
         r#""r13":"0x100380000""#,
-        "out-of-range/r13",
+        "4 out-of-range/r13",
     ),
-    (r#""entry":"main""#, r#""entry":7"#, "wrong-kind/entry"),
+    (r#""entry":"main""#, r#""entry":7"#, "3 wrong-kind/entry"),
     (
         r#""unit":null,"name":"h","address":268533768"#,
         r#""unit":"a.c","name":"h","address":true"#,
-        "out-of-range/pins/1/name",
+        "4 out-of-range/pins/1/name",
     ),
     (
         r#""unit":null,"name":"h""#,
         r#""unit":"","name":"h""#,
-        "out-of-range/pins/1/unit",
+        "4 out-of-range/pins/1/unit",
     ),
-    ("268533768", "268533768.0", "wrong-kind/pins/1/address"),
+    ("268533768", "268533768.0", "3 wrong-kind/pins/1/address"),
     (
         r#""valex":"layout""#,
         r#""valex":"unit""#,
-        "unknown-word/valex",
+        "5 unknown-word/valex",
     ),
-    (r#""version":1"#, r#""version":2"#, "version/version"),
-    (r#""version":1"#, r#""version":-1"#, "version/version"),
-    (r#""version":1"#, r#""version":1.0"#, "wrong-kind/version"),
-    (r#""version":1"#, r#""version":-0"#, "wrong-kind/version"),
+    (r#""version":1"#, r#""version":2"#, "6 version/version"),
+    (r#""version":1"#, r#""version":-1"#, "6 version/version"),
+    (r#""version":1"#, r#""version":1.0"#, "3 wrong-kind/version"),
+    (r#""version":1"#, r#""version":-0"#, "3 wrong-kind/version"),
     (
         r#""version":1"#,
         r#""version":18446744073709551616"#,
-        "wrong-kind/version",
+        "3 wrong-kind/version",
     ),
     (r#""version":1"#, r#""version":2,"version":1"#, "ok"),
     (
         r#""version":1"#,
         r#""version":1,"version":2"#,
-        "version/version",
+        "6 version/version",
     ),
-    ("{", r#"{"more":1e999,"#, "not-json"),
-    ("{", r#"{"more":"\ud800","#, "not-json"),
-    ("{", "\u{feff}{", "not-json"),
-    ("{", "[", "not-json"),
+    ("{", r#"{"more":1e999,"#, "1 not-json"),
+    ("{", r#"{"more":"\ud800","#, "1 not-json"),
+    ("{", "\u{feff}{", "1 not-json"),
+    ("{", "[", "1 not-json"),
 ];
 
 fn parts() -> &'static [(&'static str, &'static str, &'static str)] {
@@ -251,8 +317,79 @@ fn the_first_fault_is_told(rt: HostRuntime) -> Result<(), Fail> {
         let found = answer(alloc, text.as_bytes())?;
         assert_eq!(rt; found.as_str(), *wanted, "{old} as {new}");
     }
-    assert_eq!(rt; answer(alloc, b"\"\xff\"")?.as_str(), "not-json");
-    assert_eq!(rt; answer(alloc, b"[]")?.as_str(), "wrong-kind");
+    assert_eq!(rt; answer(alloc, b"\"\xff\"")?.as_str(), "1 not-json");
+    assert_eq!(rt; answer(alloc, b"[]")?.as_str(), "3 wrong-kind");
+    Ok(())
+}
+
+/// An area's kind as a layout says it.
+static KINDS: [(&str, AreaKind); 6] = [
+    ("code", AreaKind::Code),
+    ("const", AreaKind::Fixed),
+    ("data", AreaKind::Writable),
+    ("sda13", AreaKind::Sda13),
+    ("sda2", AreaKind::Sda2),
+    ("sda0", AreaKind::Sda0),
+];
+
+fn kinds() -> &'static [(&'static str, AreaKind)] {
+    &KINDS
+}
+
+fn first_kind(layout: &Layout) -> Option<AreaKind> {
+    if 0 < layout.areas() {
+        Some(layout.area(0).kind)
+    } else {
+        None
+    }
+}
+
+#[test]
+fn each_kind_is_read(rt: HostRuntime) -> Result<(), Fail> {
+    let alloc = rt.alloc();
+    for (word, kind) in kinds() {
+        let part = format!(in alloc; "\"kind\":\"{word}\"")?;
+        let text = with_part(alloc, r#""kind":"code""#, part.as_str())?;
+        let layout = read_layout(alloc, text.as_bytes()).ok().ok_or("a layout")?;
+        assert_eq!(rt; first_kind(&layout), Some(*kind), "{word}");
+    }
+    Ok(())
+}
+
+/// Where a name stands, how many bytes it has, and the answer.
+static NAMES: [(&str, &str, usize, &str); 8] = [
+    (r#""entry":"main""#, "entry", 255, "ok"),
+    (r#""entry":"main""#, "entry", 256, "4 out-of-range/entry"),
+    (r#""name":"text""#, "name", 63, "ok"),
+    (
+        r#""name":"text""#,
+        "name",
+        64,
+        "4 out-of-range/areas/0/name",
+    ),
+    (r#""name":"h""#, "name", 255, "ok"),
+    (r#""name":"h""#, "name", 256, "4 out-of-range/pins/0/name"),
+    (r#""unit":"a.c""#, "unit", 255, "ok"),
+    (r#""unit":"a.c""#, "unit", 256, "4 out-of-range/pins/0/unit"),
+];
+
+fn names() -> &'static [(&'static str, &'static str, usize, &'static str)] {
+    &NAMES
+}
+
+#[test]
+fn names_have_a_limit(rt: HostRuntime) -> Result<(), Fail> {
+    let alloc = rt.alloc();
+    for (old, key, bytes, wanted) in names() {
+        let name = "n".repeat(alloc, *bytes)?;
+        let part = format!(in alloc; "\"{key}\":\"{name}\"")?;
+        let text = with_part(alloc, old, part.as_str())?;
+        assert_eq!(rt;
+            answer(alloc, text.as_bytes())?.as_str(),
+            *wanted,
+            "{key} of {bytes}"
+        );
+    }
     Ok(())
 }
 
@@ -271,15 +408,19 @@ fn with_zeros(alloc: Global, key: &str, count: usize) -> Result<String, AllocErr
     with_part(alloc, old.as_str(), part.as_str())
 }
 
-static NESTING: [(usize, &str); 2] = [(126, "ok"), (127, "not-json")];
+static NESTING: [(usize, &str); 2] = [(126, "ok"), (127, "1 not-json")];
+
+fn nesting() -> &'static [(usize, &'static str)] {
+    &NESTING
+}
 
 /// A list, its items but one, the answer, and the limit that it tells.
 static LIMITS: [(&str, usize, &str, u32); 5] = [
-    ("areas", 1_024, "limit/areas", 1_024),
-    ("areas", 1_023, "wrong-kind/areas/0", 0),
-    ("foreign", 1_024, "limit/foreign", 1_024),
-    ("pins", 65_536, "limit/pins", 65_536),
-    ("pins", 65_535, "wrong-kind/pins/0", 0),
+    ("areas", 1_024, "11 limit/areas", 1_024),
+    ("areas", 1_023, "3 wrong-kind/areas/0", 0),
+    ("foreign", 1_024, "11 limit/foreign", 1_024),
+    ("pins", 65_536, "11 limit/pins", 65_536),
+    ("pins", 65_535, "3 wrong-kind/pins/0", 0),
 ];
 
 fn limits() -> &'static [(&'static str, usize, &'static str, u32)] {
@@ -289,7 +430,7 @@ fn limits() -> &'static [(&'static str, usize, &'static str, u32)] {
 #[test]
 fn limits_are_told(rt: HostRuntime) -> Result<(), Fail> {
     let alloc = rt.alloc();
-    for (arrays, wanted) in &NESTING {
+    for (arrays, wanted) in nesting() {
         let text = with_nesting(alloc, *arrays)?;
         let found = answer(alloc, text.as_bytes())?;
         assert_eq!(rt; found.as_str(), *wanted, "{arrays} arrays");

@@ -49,7 +49,8 @@ abbrev pub log_imm_ops : List LogImmOp
 log_imm_ops = log_imm.Ori ∷ log_imm.Oris ∷ log_imm.Xori ∷ log_imm.Xoris ∷ log_imm.AndiDot ∷ log_imm.AndisDot ∷ []
 
 abbrev pub alu_ops : List AluOp
-alu_ops = alu.Subfc ∷ alu.Addc ∷ alu.Mulhwu ∷ alu.Subf ∷ alu.Mulhw ∷ alu.Subfe ∷ alu.Adde ∷ alu.Mullw ∷ alu.Add ∷ alu.Divwu ∷ alu.Divw ∷ []
+alu_ops = alu.Subfc ∷ alu.Addc ∷ alu.Mulhwu ∷ alu.Subf ∷ alu.Mulhw ∷ alu.Subfe ∷ alu.Adde ∷ alu.Mullw ∷ alu.Add ∷ alu.Divwu
+    ∷ alu.Divw ∷ []
 
 abbrev pub alu2_ops : List Alu2Op
 alu2_ops = alu2.Neg ∷ alu2.Subfze ∷ alu2.Addze ∷ []
@@ -96,14 +97,20 @@ jump_forms = jumps.B ∷ jumps.Bs ∷ jumps.Bl ∷ jumps.Bdnz ∷ jumps.Blr ∷ 
 -- ---- what stands in dumps alone
 
 abbrev pub pseudo_forms : List PseudoForm
-pseudo_forms = pseudo.AllocFrame ∷ pseudo.FreeFrame ∷ pseudo.Imm ∷ pseudo.Bt ∷ pseudo.Bf ∷ pseudo.Btbl ∷ pseudo.MfcrBit ∷ pseudo.Label ∷ pseudo.Cfi ∷ pseudo.Annot ∷ []
+pseudo_forms = pseudo.AllocFrame ∷ pseudo.FreeFrame ∷ pseudo.Imm ∷ pseudo.Bt ∷ pseudo.Bf ∷ pseudo.Btbl ∷ pseudo.MfcrBit
+    ∷ pseudo.Label ∷ pseudo.Cfi ∷ pseudo.Annot ∷ []
 
 abbrev pub pseudo_names : List (List ℕ)
-pseudo_names = codes "allocframe" ∷ codes "freeframe" ∷ codes "imm" ∷ codes "bt" ∷ codes "bf" ∷ codes "btbl" ∷ codes "mfcrbit" ∷ codes "label" ∷ codes "cfi" ∷ codes "annot" ∷ []
+pseudo_names = codes "allocframe" ∷ codes "freeframe" ∷ codes "imm" ∷ codes "bt" ∷ codes "bf" ∷ codes "btbl" ∷ codes "mfcrbit"
+    ∷ codes "label" ∷ codes "cfi" ∷ codes "annot" ∷ []
 
 -- floating-point and 64-bit instructions
 abbrev pub refused_names : List (List ℕ)
-refused_names = codes "fabs" ∷ codes "fadd" ∷ codes "fadds" ∷ codes "fcmpu" ∷ codes "fctiwz" ∷ codes "fdiv" ∷ codes "fdivs" ∷ codes "fmadd" ∷ codes "fmr" ∷ codes "fmsub" ∷ codes "fmul" ∷ codes "fmuls" ∷ codes "fneg" ∷ codes "frsp" ∷ codes "fsub" ∷ codes "fsubs" ∷ codes "lfd" ∷ codes "lfdx" ∷ codes "lfs" ∷ codes "lfsx" ∷ codes "stfd" ∷ codes "stfdx" ∷ codes "stfs" ∷ codes "stfsx" ∷ codes "cmpd" ∷ codes "cmpld" ∷ codes "divd" ∷ codes "divdu" ∷ codes "extsw" ∷ codes "ld" ∷ codes "ldx" ∷ codes "mulld" ∷ codes "rldicl" ∷ codes "rldicr" ∷ codes "sld" ∷ codes "srad" ∷ codes "srd" ∷ codes "std" ∷ codes "stdx" ∷ []
+refused_names = codes "fabs" ∷ codes "fadd" ∷ codes "fadds" ∷ codes "fcmpu" ∷ codes "fctiwz" ∷ codes "fdiv" ∷ codes "fdivs"
+    ∷ codes "fmadd" ∷ codes "fmr" ∷ codes "fmsub" ∷ codes "fmul" ∷ codes "fmuls" ∷ codes "fneg" ∷ codes "frsp" ∷ codes "fsub"
+    ∷ codes "fsubs" ∷ codes "lfd" ∷ codes "lfdx" ∷ codes "lfs" ∷ codes "lfsx" ∷ codes "stfd" ∷ codes "stfdx" ∷ codes "stfs"
+    ∷ codes "stfsx" ∷ codes "cmpd" ∷ codes "cmpld" ∷ codes "divd" ∷ codes "divdu" ∷ codes "extsw" ∷ codes "ld" ∷ codes "ldx"
+    ∷ codes "mulld" ∷ codes "rldicl" ∷ codes "rldicr" ∷ codes "sld" ∷ codes "srad" ∷ codes "srd" ∷ codes "std" ∷ codes "stdx" ∷ []
 
 -- names beside the forms that they select
 abbrev pub selecting : {Op : Type 0} → (Op → Form) → List (List ℕ) → List Op → List (List ℕ × Option Form)

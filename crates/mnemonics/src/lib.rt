@@ -3,6 +3,8 @@
 
 mod form;
 mod table;
+#[cfg(test)]
+mod tests;
 
 pub use form::{Form, JumpForm, PseudoForm};
 pub use table::mnemonics;

@@ -1,15 +1,19 @@
 -- Tests in their order, by parts.
-use Rattle.std.proofs.Common.{◌≡◌, ℕ, zero, suc, ◌+◌, ◌-◌, ◌<◌, ◌≤◌, true, false, List, [], ◌∷◌, ◌++◌, length, get_or, drop, Some, None, refl, arith, sym, ap, ◌∙◌}
+use Rattle.std.proofs.Common.{◌≡◌, ℕ, zero, suc, ◌+◌, ◌-◌, ◌<◌, ◌≤◌, true, false, List, [], ◌∷◌, ◌++◌, length, get_or, drop, Some, None, refl, arith, sym, ap, ◌∙◌, inl, inr}
 use Rattle.std.specs.Prelude.{if◌then◌else◌}
 use Rattle.std.specs.List.{range_with_len}
+use Rattle.std.specs.Option.{option_or}
+use Rattle.std.proofs.lemmas.Bool.{cases_Bool}
 use Rattle.std.proofs.lemmas.List.{drop_more}
 use Rattle.ordered_tests.specs.Checks.{Check, first_fault, each_check, from_to}
+use Rattle.ordered_tests.specs.Lists.{EachOf}
 
 -- tests behind tests that pass
 pub first_fault_after : {F : Type 0} → (xs ys : List (Check F)) → first_fault xs ≡ None → first_fault (xs ++ ys) ≡ first_fault ys
 first_fault_after [] ys h = refl
 first_fault_after (c ∷ xs) ys h =
-    (elim c.passes as (λ b. (if b then first_fault xs else Some c.fault) ≡ None → (if b then first_fault (xs ++ ys) else Some c.fault) ≡ first_fault ys) [
+    (elim c.passes as (λ b. (if b then first_fault xs else Some c.fault) ≡ None
+    → (if b then first_fault (xs ++ ys) else Some c.fault) ≡ first_fault ys) [
       | true ↦ (λ k. first_fault_after xs ys k)
       | false ↦ (λ k. absurd (cc))
     ]) h
@@ -18,7 +22,8 @@ first_fault_after (c ∷ xs) ys h =
 pub first_fault_before : {F : Type 0} → (xs ys : List (Check F)) (f : F) → first_fault xs ≡ Some f → first_fault (xs ++ ys) ≡ Some f
 first_fault_before [] ys f h = absurd (cc)
 first_fault_before (c ∷ xs) ys f h =
-    (elim c.passes as (λ b. (if b then first_fault xs else Some c.fault) ≡ Some f → (if b then first_fault (xs ++ ys) else Some c.fault) ≡ Some f) [
+    (elim c.passes as (λ b. (if b then first_fault xs else Some c.fault) ≡ Some f
+    → (if b then first_fault (xs ++ ys) else Some c.fault) ≡ Some f) [
       | true ↦ (λ k. first_fault_before xs ys f k)
       | false ↦ (λ k. k)
     ]) h
@@ -27,7 +32,8 @@ first_fault_before (c ∷ xs) ys f h =
 pub front_passes : {F : Type 0} → (xs ys : List (Check F)) → first_fault (xs ++ ys) ≡ None → first_fault xs ≡ None
 front_passes [] ys h = refl
 front_passes (c ∷ xs) ys h =
-    (elim c.passes as (λ b. (if b then first_fault (xs ++ ys) else Some c.fault) ≡ None → (if b then first_fault xs else Some c.fault) ≡ None) [
+    (elim c.passes as (λ b. (if b then first_fault (xs ++ ys) else Some c.fault) ≡ None
+    → (if b then first_fault xs else Some c.fault) ≡ None) [
       | true ↦ (λ k. front_passes xs ys k)
       | false ↦ (λ k. k)
     ]) h
@@ -39,7 +45,24 @@ rest_passes xs ys h = sym (first_fault_after xs ys (front_passes xs ys h)) ∙ h
 -- where all tests pass, the first of them does
 pub head_passes : {F : Type 0} → (c : Check F) (cs : List (Check F)) → first_fault (c ∷ cs) ≡ None → c.passes ≡ true
 head_passes c cs h =
-    (elim c.passes as (λ b. (if b then first_fault cs else Some c.fault) ≡ None → b ≡ true) [ true ↦ (λ k. refl) | false ↦ (λ k. absurd (cc)) ]) h
+    (elim c.passes as (λ b. (if b then first_fault cs else Some c.fault) ≡ None → b ≡ true) [
+      | true ↦ (λ k. refl)
+      | false ↦ (λ k. absurd (cc))
+    ]) h
+
+-- the first fault of two lists of tests
+pub first_fault_append : {F : Type 0} → (xs ys : List (Check F)) → first_fault (xs ++ ys) ≡ option_or (first_fault xs) (first_fault ys)
+first_fault_append [] ys = refl
+first_fault_append (c ∷ xs) ys = elim (cases_Bool c.passes) [ inl t ↦ rw t (first_fault_append xs ys) | inr f ↦ rw f refl ]
+
+-- where no test fails, each passes
+pub each_passes_of : {F : Type 0} → (cs : List (Check F)) → first_fault cs ≡ None → EachOf (λ (c : Check F). c.passes ≡ true) cs
+each_passes_of [] h = tt
+each_passes_of (c ∷ cs) h = (head_passes c cs h, each_passes_of cs (rest_passes (c ∷ []) cs h))
+
+pub none_fails : {F : Type 0} → (cs : List (Check F)) → EachOf (λ (c : Check F). c.passes ≡ true) cs → first_fault cs ≡ None
+none_fails [] e = refl
+none_fails (c ∷ cs) e = rw e.0 (none_fails cs e.1)
 
 -- ---- the places of a list, from the front
 

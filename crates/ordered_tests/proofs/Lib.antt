@@ -1,1 +1,4 @@
 pub mod Faults
+pub mod Answers
+pub mod Lists
+pub mod Steps

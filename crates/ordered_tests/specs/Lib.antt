@@ -1,1 +1,4 @@
 pub mod Checks
+pub mod Steps
+pub mod Answers
+pub mod Lists

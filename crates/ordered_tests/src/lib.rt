@@ -1,2 +1,2 @@
-// Tests that are made in an order, each with its fault, as definitions that the crates above cite.
+//! Tests that are made in an order, each with its fault; a value or the first fault; what holds of each of a list.
 #![tactic(auto)]

@@ -1,12 +1,10 @@
 -- The instruction that a word proposes by its fields. A reserved bit may still be set, and BO or a record bit be another.
-use Rattle.std.specs.Prelude.{ℕ, ◌+◌, ◌*◌, ◌-◌, ◌/◌, ◌%◌, ◌^◌, ℤ, pos, negsuc, nat_lt, ◌==◌, if◌then◌else◌, List, slice_index, Option, Some, None, position}
+use Rattle.std.specs.Prelude.{ℕ, ◌+◌, ◌*◌, ◌-◌, ◌/◌, ◌%◌, ◌^◌, pos, ◌==◌, if◌then◌else◌, ◌≡◌, ◌↔◌, List, slice_index, Option, Some, None, option_and_then, position}
 use Rattle.isa_model.specs.Instructions.{alu_imm_opcodes, log_imm_opcodes, alu_opcodes, alu2_opcodes, log_opcodes, and_dot_place, log2_opcodes, srawi_opcode, rot_opcodes, load_opcodes, store_opcodes, load_x_opcodes, store_x_opcodes, cmp_opcodes, cmp_imm_opcodes, cmpwi_place, cr_bit_opcodes, move_opcodes, bar_words, b_opcode, bc_opcode, blr_word, bctr_word, bctrl_word, trap_word, stwu_opcode, stwux_opcode, mfcr_opcode}
+use Rattle.isa_model.specs.Forms.{signed}
+use Rattle.ppc_decode.specs.Word.{is_word, Encodes}
 use Rattle.ppc_decode.specs.declared.machine.Machine.{Machine}
 use Rattle.ppc_decode.specs.declared.machine.Machine.TheVariants.{AluImm, LogImm, Alu, Alu2, Log, Log2, Srawi, Rot, Load, Store, LoadX, StoreX, Cmp, CmpImm, CrBit, Move, Bar, Stwu, Stwux, Mfcr, B, Bl, Bc, Blr, Bctr, Bctrl, Trap}
-
--- n bits as a number with a sign
-abbrev pub signed : ℕ → ℕ → ℤ
-signed n x = if nat_lt x (2 ^ (n - 1)) then pos x else negsuc (2 ^ n - 1 - x)
 
 -- the first place of an opcode in a row
 abbrev pub place_in : List ℕ → ℕ → Option ℕ
@@ -95,3 +93,11 @@ by_opcode opcode x y low =
 
 unfoldable pub proposed : ℕ → Option Machine
 proposed word = by_opcode (word / 2 ^ 26) (word / 2 ^ 21 % 32) (word / 2 ^ 16 % 32) (word % 2 ^ 16)
+
+-- the instruction of a word: what it proposes, where that has this word
+unfoldable pub decoded : ℕ → Option Machine
+decoded word = option_and_then (λ i. if is_word word i then Some i else None) (proposed word)
+
+-- a word is decoded as an instruction exactly where it is that instruction, with its fields in range
+abbrev pub DecodesExactly : Type 0
+DecodesExactly = (word : ℕ) (i : Machine) → (decoded word ≡ Some i) ↔ Encodes word i

@@ -1,5 +1,7 @@
 -- The line that shows an instruction: its mnemonic and its operands in the order of assembly language.
-use Rattle.std.specs.Prelude.{ℕ, ◌+◌, ℤ, if◌then◌else◌, ◌==◌, List, [], ◌∷◌}
+use Rattle.std.specs.Prelude.{ℕ, ◌+◌, ℤ, Bool, false, ◌&&◌, if◌then◌else◌, ◌==◌, List, [], ◌∷◌}
+use Rattle.std.specs.Option.{option_map_or}
+use Rattle.std.specs.Str.{bytes_eq}
 use Rattle.std.specs.Int.{cast_unsigned, w32}
 use Rattle.isa_model.specs.Word.{wrapped}
 use Rattle.isa_model.specs.Instructions.{name_at, alu_imm_names, log_imm_names, alu_names, alu2_names, log_names, log2_names, srawi_name, rot_names, load_names, store_names, load_x_names, store_x_names, cmp_names, cmp_imm_names, cr_bit_names, move_names, bar_names, b_name, bl_name, bc_name, bdnz_name, blr_name, bctr_name, bctrl_name, trap_name, stwu_name, stwux_name, mfcr_name}
@@ -7,6 +9,8 @@ use Rattle.ppc_decode.specs.declared.machine.Machine.{Machine}
 use Rattle.ppc_decode.specs.declared.machine.Machine.TheVariants.{AluImm, LogImm, Alu, Alu2, Log, Log2, Srawi, Rot, Load, Store, LoadX, StoreX, Cmp, CmpImm, CrBit, Move, Bar, Stwu, Stwux, Mfcr, B, Bl, Bc, Blr, Bctr, Bctrl, Trap}
 use Rattle.ppc_decode.specs.declared.operand.Operand.{Operand}
 use Rattle.ppc_decode.specs.declared.operand.Operand.TheVariants.{Number, Signed, Target}
+use Rattle.ppc_decode.specs.Word.{fits}
+use Rattle.ppc_decode.specs.Decoding.{decoded}
 use Rattle.ppc_decode.specs.Operands.{line}
 
 -- the address that a branch at an address leads to
@@ -42,6 +46,10 @@ mnemonic_of Blr = blr_name
 mnemonic_of Bctr = bctr_name
 mnemonic_of Bctrl = bctrl_name
 mnemonic_of Trap = trap_name
+
+-- the word's instruction has the same spelling
+abbrev pub has_mnemonic_of : Machine → ℕ → Bool
+has_mnemonic_of m word = fits m && option_map_or (λ found. bytes_eq (mnemonic_of found) (mnemonic_of m)) (decoded word) false
 
 -- the operands of an instruction that stands at an address
 abbrev pub operands_of : Machine → ℕ → List Operand

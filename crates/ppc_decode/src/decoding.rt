@@ -6,7 +6,6 @@ ghost use Rattle.ppc_decode.specs.Decoding.{
   place_in,
   log_place,
   last_11,
-  signed,
   rare_31,
   by_31,
   by_19,
@@ -14,9 +13,12 @@ ghost use Rattle.ppc_decode.specs.Decoding.{
   rare_opcode,
   by_opcode,
   proposed,
+  decoded,
+  DecodesExactly,
 };
 
-use crate::encoding::encode;
+use crate::displacement::{signed_16, signed_26};
+use crate::encoding::{encode, is_word};
 use crate::machine::Machine;
 use crate::table;
 
@@ -51,28 +53,6 @@ fn last_11(word: u32) -> u32
     ensures range { result < 2 ^ 11 }
 {
     word & 0x7ff
-}
-
-fn signed_16(x: u32) -> i32
-    requires { x < 2 ^ 16 }
-    ensures { result ≡ signed 16 x }
-{
-    if x < 0x8000 {
-        x as i32
-    } else {
-        x as i32 - 0x1_0000
-    }
-}
-
-fn signed_26(x: u32) -> i32
-    requires { x < 2 ^ 26 }
-    ensures { result ≡ signed 26 x }
-{
-    if x < 0x0200_0000 {
-        x as i32
-    } else {
-        x as i32 - 0x0400_0000
-    }
 }
 
 fn rare_31(x: u8, y: u8, z: u8, low: u32) -> Option<Machine>
@@ -220,29 +200,34 @@ fn proposed(word: u32) -> Option<Machine>
     by_opcode(word >> 26, x, y, word & 0xffff)
 }
 
-/// The instruction of a word; None exactly where no instruction with its fields in range has that word.
-#[tactic(auto, using(crate::proofs::Proposals::word_proposes))]
-pub fn decode(word: u32) -> Option<Machine>
-    ensures found { IfSome result (Encodes word) }
-    ensures only { (i : Machine) → Encodes word i → result ≡ Some i }
+/// What a word proposes, where that has this word.
+#[tactic(auto, unfolding(crate::specs::Decoding::decoded))]
+fn confirmed(word: u32) -> Option<Machine>
+    ensures { result ≡ decoded word }
 {
     let proposed = proposed(word)?;
-    if proposed.fits() && encode(&proposed) == word {
+    if is_word(word, &proposed) {
         Some(proposed)
     } else {
         None
     }
 }
 
-/// An instruction is found again in its word.
+/// The instruction of a word; None exactly where no instruction with its fields in range has that word.
+pub fn decode(word: u32) -> Option<Machine>
+    ensures value { result ≡ decoded word }
+    ensures found { IfSome result (Encodes word) }
+    ensures only { (i : Machine) → Encodes word i → result ≡ Some i }
+    ensures law { DecodesExactly }
+{
+    confirmed(word)
+}
+
+/// An instruction is found again in its word, and no word belongs to two instructions whose fields are in range.
 pub fn decode_encoded(m: &Machine) -> Option<Machine>
     requires { IsTrue (fits m.now) }
-    ensures { result ≡ Some m.now }
+    ensures found { result ≡ Some m.now }
+    ensures apart { WordsDiffer }
 {
     decode(encode(m))
 }
-
-/// No word belongs to two instructions whose fields are in range.
-pub fn words_differ()
-    ensures { WordsDiffer }
-{}

@@ -1,12 +1,12 @@
 // The word of an instruction.
 ghost use Rattle.std.specs.Prelude.{◌≡◌, ◌<◌, ◌^◌, IsTrue};
-ghost use Rattle.isa_model.specs.Instructions.{d_form, x_form, m_form, xfx_form, i_form, extended, low_bits};
-ghost use Rattle.ppc_decode.specs.Word.{fits, word_of};
+ghost use Rattle.isa_model.specs.Forms.{d_form, x_form, m_form, xfx_form, i_form, extended, low_bits};
+ghost use Rattle.ppc_decode.specs.Word.{fits, word_of, is_word, word_or_zero};
 
 use crate::machine::Machine;
 use crate::table;
 
-#[tactic(auto, unfolding(isa_model::specs::Instructions::d_form))]
+#[tactic(auto, unfolding(isa_model::specs::Forms::d_form))]
 fn d_form(opcode: u16, x: u8, y: u8, low: u32) -> u32
     requires opcode { opcode < 64 }
     requires x { x < 32 }
@@ -17,7 +17,7 @@ fn d_form(opcode: u16, x: u8, y: u8, low: u32) -> u32
     (u32::from(opcode) << 26) + (u32::from(x) << 21) + (u32::from(y) << 16) + low
 }
 
-#[tactic(auto, unfolding(isa_model::specs::Instructions::x_form))]
+#[tactic(auto, unfolding(isa_model::specs::Forms::x_form))]
 fn x_form(opcode: u16, x: u8, y: u8, z: u8, low: u32) -> u32
     requires opcode { opcode < 64 }
     requires x { x < 32 }
@@ -74,13 +74,14 @@ fn xfx_form(x: u8, spr: u8, opcode: u16) -> u32
     x_form(31, x, spr % 32, spr / 32, extended(opcode, 0))
 }
 
-#[tactic(auto, unfolding(isa_model::specs::Instructions::i_form))]
-fn i_form(displacement: u32, lk: u32) -> u32
+#[tactic(auto, unfolding(isa_model::specs::Forms::i_form))]
+fn i_form(opcode: u16, displacement: u32, lk: u32) -> u32
+    requires opcode { opcode < 63 }
     requires displacement { displacement < 2 ^ 26 }
     requires lk { lk < 2 }
-    ensures { result ≡ i_form displacement lk }
+    ensures { result ≡ i_form opcode displacement lk }
 {
-    (u32::from(table::BRANCH) << 26) + displacement + lk
+    (u32::from(opcode) << 26) + displacement + lk
 }
 
 fn low_16(z: i32) -> u32
@@ -97,7 +98,7 @@ fn low_26(z: i32) -> u32
     z.cast_unsigned() & 0x03ff_ffff
 }
 
-/// The word of an instruction. Power ISA 2.07, "Instruction Formats".
+/// The word of an instruction. Power ISA 2.07, Book I, "Instruction Formats".
 pub fn encode(m: &Machine) -> u32
     requires { IsTrue (fits m.now) }
     ensures { result ≡ word_of m.now }
@@ -135,12 +136,27 @@ pub fn encode(m: &Machine) -> u32
         Machine::Stwu(s, c, a) => d_form(table::STWU, *s, *a, low_16(*c)),
         Machine::Stwux(s, a, b) => by_31(*s, *a, *b, table::STWUX, 0),
         Machine::Mfcr(r) => by_31(*r, 0, 0, table::MFCR, 0),
-        Machine::B(n) => i_form(low_26(*n), 0),
-        Machine::Bl(n) => i_form(low_26(*n), 1),
+        Machine::B(n) => i_form(table::BRANCH, low_26(*n), 0),
+        Machine::Bl(n) => i_form(table::BRANCH, low_26(*n), 1),
         Machine::Bc(bo, bi, n) => d_form(table::BRANCH_CONDITIONAL, *bo, *bi, low_16(*n)),
         Machine::Blr => table::BLR,
         Machine::Bctr => table::BCTR,
         Machine::Bctrl => table::BCTRL,
         Machine::Trap => table::TRAP,
     }
+}
+
+/// Whether the word is this instruction, with its fields in range.
+pub fn is_word(word: u32, m: &Machine) -> bool
+    ensures { result ≡ is_word word m.now }
+{
+    m.fits() && word == encode(m)
+}
+
+/// The word of an instruction; 0 for one whose fields are out of range.
+#[tactic(auto, unfolding(crate::specs::Word::word_or_zero))]
+pub fn word_or_zero(m: &Machine) -> u32
+    ensures { result ≡ word_or_zero m.now }
+{
+    if m.fits() { encode(m) } else { 0 }
 }

@@ -2,6 +2,7 @@
 #![tactic(auto)]
 
 pub mod decoding;
+pub mod displacement;
 pub mod encoding;
 pub mod machine;
 pub mod operand;

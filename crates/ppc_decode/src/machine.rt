@@ -1,6 +1,6 @@
 // The instructions, and which of them have a word.
 ghost use Rattle.std.specs.Prelude.{◌≡◌};
-ghost use Rattle.isa_model.specs.Instructions.{
+ghost use Rattle.isa_model.specs.Operands.{
   is_register,
   is_bit_number,
   is_cr_field,

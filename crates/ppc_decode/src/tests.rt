@@ -1,10 +1,14 @@
 // Words of GNU as for the lines that stand beside them, placed at 10010008, and words of no instruction in use.
 use crate::decoding::{decode, decode_encoded};
-use crate::encoding::encode;
-use crate::text::text;
+use crate::displacement::{
+    displacement_16_between, displacement_16_in, displacement_26_between, displacement_26_in,
+};
+use crate::encoding::{encode, is_word, word_or_zero};
+use crate::machine::Machine;
+use crate::text::{has_mnemonic_of, text};
 use std::test::Fail;
 
-const LINES: [(u32, &str); 91] = [
+static LINES: [(u32, &str); 91] = [
     (0x1fe1_8000, "mulli 31,1,-32768"),
     (0x2064_7fff, "subfic 3,4,32767"),
     (0x30a0_ffff, "addic 5,0,-1"),
@@ -100,7 +104,7 @@ const LINES: [(u32, &str); 91] = [
 
 /// The dotted `or`, BO 13, bdnz with a condition and with a bit, an absolute branch, the 64-bit comparison, and reserved bits or
 /// other forms: `rlwinm.`, `blrl`, the XER as a special register, `addo`, `neg` with RB, another trap, a condition with LK.
-const OTHERS: [u32; 15] = [
+static OTHERS: [u32; 15] = [
     0x7c00_0379,
     0x41a2_0008,
     0x4102_0008,
@@ -118,20 +122,115 @@ const OTHERS: [u32; 15] = [
     0xffff_ffff,
 ];
 
+// The tables are handed out as slices of which no more is known, so that the proofs of the tests do not read them.
+
+fn lines() -> &'static [(u32, &'static str)] {
+    &LINES
+}
+
+fn others() -> &'static [u32] {
+    &OTHERS
+}
+
+fn branches() -> &'static [(u32, u32, u32)] {
+    &BRANCHES
+}
+
+fn conditional_branches() -> &'static [(u32, u32, u32)] {
+    &CONDITIONAL_BRANCHES
+}
+
 #[test]
 fn words_decode_and_print(rt: HostRuntime) -> Result<(), Fail> {
-    for (word, line) in LINES {
+    for (word, line) in lines() {
+        let word = *word;
         match decode(word) {
             Some(m) => {
-                assert_eq!(rt; text(rt.alloc(), &m, 0x1001_0008)?.as_str(), line);
+                assert_eq!(rt; text(rt.alloc(), &m, 0x1001_0008)?.as_str(), *line);
                 assert_eq!(rt; encode(&m), word);
                 assert_eq!(rt; decode_encoded(&m), Some(m));
+                assert_eq!(rt; word_or_zero(&m), word);
+                assert!(rt; is_word(word, &m) && !is_word(word ^ 1, &m));
+                assert!(rt; has_mnemonic_of(&m, word));
             }
             None => assert!(rt; false, "{word}"),
         }
     }
-    for word in OTHERS {
-        assert_eq!(rt; decode(word), None, "{word}");
+    for word in others() {
+        assert_eq!(rt; decode(*word), None, "{word}");
     }
     Ok(())
+}
+
+/// Words of GNU as for a branch at the first address to the second.
+static BRANCHES: [(u32, u32, u32); 6] = [
+    (0x49ff_fffc, 0x1001_0008, 0x1201_0004),
+    (0x4a00_0001, 0x1001_0008, 0x0e01_0008),
+    (0x4800_fff9, 0x1001_0008, 0x1002_0000),
+    (0x4bff_fffc, 0, 0xffff_fffc),
+    (0x4800_0004, 0xffff_fffc, 0),
+    (0x4800_0000, 0x1001_0008, 0x1001_0008),
+];
+
+/// The same of conditional branches.
+static CONDITIONAL_BRANCHES: [(u32, u32, u32); 4] = [
+    (0x419f_7ffc, 0x1001_0008, 0x1001_8004),
+    (0x4082_8000, 0x1001_0008, 0x1000_8008),
+    (0x4200_fff8, 0x1001_0008, 0x1001_0000),
+    (0x4182_0008, 0xffff_fffc, 4),
+];
+
+#[test]
+fn displacements_are_those_of_words(rt: HostRuntime) {
+    for &(word, at, target) in branches() {
+        assert_eq!(rt;
+            displacement_26_in(word),
+            displacement_26_between(at, target),
+            "{word}"
+        );
+    }
+    for &(word, at, target) in conditional_branches() {
+        assert_eq!(rt;
+            displacement_16_in(word),
+            displacement_16_between(at, target),
+            "{word}"
+        );
+    }
+    assert_eq!(rt; displacement_26_in(0x4bff_fffd), -4);
+    assert_eq!(rt; displacement_16_in(0x4182_0008), 8);
+    // Targets one place out of reach, and one that is no multiple of 4.
+    assert_eq!(rt; displacement_26_between(0, 0x0200_0000), -0x0200_0000);
+    assert_eq!(rt; displacement_16_between(0x8004, 0), 0x7ffc);
+    assert_eq!(rt; displacement_16_between(0x1000, 0x100b), 8);
+}
+
+static OUT_OF_RANGE: [Machine; 10] = [
+    Machine::Alu(11, 0, 0, 0),
+    Machine::Alu(8, 32, 0, 0),
+    Machine::AluImm(3, 1, 2, 32768),
+    Machine::LogImm(0, 1, 2, -1),
+    Machine::Cmp(0, 8, 1, 2),
+    Machine::CmpImm(1, 0, 1, -1),
+    Machine::B(2),
+    Machine::Bc(16, 1, 8),
+    Machine::Bc(13, 2, 8),
+    Machine::Bar(3),
+];
+
+fn out_of_range() -> &'static [Machine] {
+    &OUT_OF_RANGE
+}
+
+#[test]
+fn instructions_out_of_range_have_no_word(rt: HostRuntime) {
+    for m in out_of_range() {
+        assert!(rt; !m.fits() && !is_word(0x7c00_0214, m));
+        assert_eq!(rt; word_or_zero(m), 0);
+        assert!(rt; !has_mnemonic_of(m, 0x7c00_0214));
+    }
+    let addi = Machine::AluImm(3, 3, 0, 7);
+    assert!(rt; has_mnemonic_of(&addi, 0x38a0_0001) && !has_mnemonic_of(&addi, 0x3d9f_1234));
+    assert!(rt;
+        !has_mnemonic_of(&addi, 0) && !has_mnemonic_of(&Machine::Bc(12, 2, 8), 0x4200_fff8)
+    );
 }

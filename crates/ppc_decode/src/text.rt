@@ -2,8 +2,9 @@
 ghost use Rattle.std.specs.Prelude.{◌≡◌, IsTrue, IfOk, string_bytes};
 ghost use Rattle.ppc_decode.specs.Word.{fits};
 ghost use Rattle.ppc_decode.specs.Operands.{operand_list, line};
-ghost use Rattle.ppc_decode.specs.Text.{target, mnemonic_of, operands_of, text_of};
+ghost use Rattle.ppc_decode.specs.Text.{target, mnemonic_of, has_mnemonic_of, operands_of, text_of};
 
+use crate::decoding::decode;
 use crate::machine::Machine;
 use crate::operand::Operand::{Number, Signed, Target};
 use crate::operand::Operands::{Five, One, Three, Two, Zero};
@@ -44,6 +45,19 @@ pub fn mnemonic(m: &Machine) -> &'static str
         Machine::Bctr => "bctr",
         Machine::Bctrl => "bctrl",
         Machine::Trap => "trap",
+    }
+}
+
+/// Whether a word is an instruction with the spelling of this one; false where this one's fields are out of range.
+pub fn has_mnemonic_of(m: &Machine, word: u32) -> bool
+    ensures { result ≡ has_mnemonic_of m.now word }
+{
+    if !m.fits() {
+        return false;
+    }
+    match decode(word) {
+        Some(found) => mnemonic(&found) == mnemonic(m),
+        None => false,
     }
 }
 

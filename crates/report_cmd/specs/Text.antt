@@ -43,7 +43,7 @@ refusal_text (NotYet part.Image) = codes "elf 0 not-yet 0"
 refusal_text (NotYet part.Dump) = codes "dump 0 not-yet ."
 
 abbrev pub usage : List ℕ
-usage = codes "usage: valex check LAYOUT IMAGE UNIT...\n       valex run LAYOUT IMAGE REPLIES STEPS UNIT...\n       valex show IMAGE ADDRESS COUNT\n       valex make SEED COUNT\n"
+usage = codes "usage: valex check LAYOUT IMAGE UNIT...\n       valex run LAYOUT IMAGE REPLIES STEPS UNIT...\n       valex show IMAGE ADDRESS COUNT\n       valex make SEED COUNT\n       valex upgrade UNIT\n"
 
 abbrev pub owner_text : Owner → List ℕ
 owner_text owner = owner.unit ++ (codes " " ++ owner.function)

@@ -5,7 +5,7 @@ use Rattle.std.specs.Str.{bytes_eq}
 use Rattle.serde_json.specs.Data.{Data, Items, no_items, item}
 use Rattle.serde_json.specs.Find.{as_str, as_array, as_number, as_u64, as_i64}
 use Rattle.isa_model.specs.Instructions.{is_register, is_s16}
-use Rattle.asm_syntax.specs.declared.limits.TheConstants.{MOST_INSTRUCTIONS}
+use Rattle.limits.specs.declared.TheConstants.{MOST_INSTRUCTIONS}
 use Rattle.checker.specs.Words.{IsAddiOrBlr}
 use Rattle.asm_syntax.specs.declared.instr.Function.{Function}
 use Rattle.asm_syntax.specs.declared.instr.Instr.{Instr}

@@ -1,8 +1,7 @@
 -- Which words are a command, and how long the files that they name may be.
 use Rattle.std.specs.Prelude.{ℕ, Bool, false, not, ◌&&◌, ◌==◌, List, [], ◌∷◌, length, codes, slice_index_or, if◌then◌else◌}
 use Rattle.std.specs.Str.{bytes_eq}
-use Rattle.image_model.specs.declared.limits.TheConstants.{MOST_IMAGE_BYTES}
-use Rattle.report_cmd.specs.declared.limits.TheConstants.{MOST_LAYOUT_BYTES, MOST_DUMP_BYTES}
+use Rattle.limits.specs.declared.TheConstants.{MOST_IMAGE_BYTES, MOST_LAYOUT_BYTES, MOST_DUMP_BYTES}
 
 -- the word at a place, counted from 0
 abbrev pub word_at : List (List ℕ) → ℕ → List ℕ

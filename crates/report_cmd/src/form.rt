@@ -4,7 +4,7 @@ ghost use Rattle.std.specs.Prelude.{◌≡◌, ◌≤◌, option_map, length, fi
 ghost use Rattle.std.specs.Prelude.{◌<◌, ◌+◌, ◌^◌};
 ghost use Rattle.std.specs.Bool.{OnTrue};
 ghost use Rattle.std.specs.List.{list_any};
-ghost use Rattle.asm_syntax.specs.declared.limits.TheConstants.{MOST_INSTRUCTIONS};
+ghost use Rattle.limits.specs.declared.TheConstants.{MOST_INSTRUCTIONS};
 ghost use Rattle.elf_view.specs.Views.{segment_seen, symbol_seen};
 ghost use Rattle.report_cmd.specs.Form.{sole, is_candidate, is_symbol_of, is_sole_symbol, is_code_segment, is_entry, place_of, IsPlaced};
 

@@ -6,7 +6,6 @@ mod edge;
 mod form;
 mod judge;
 mod layout;
-mod limits;
 mod reader;
 #[cfg(test)]
 mod tests;

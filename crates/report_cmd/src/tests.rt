@@ -32,7 +32,7 @@ const REPORT: &str =
     "yes\nfunctions 1 bytes 8\ntables 0 bytes 0\nvariables 0 bytes 0\nexternals 0\npadding 0\nforeign 0\nloaded 8\n10010000 10010008 function a.c main\n";
 
 const USAGE: &str =
-    "usage: valex check LAYOUT IMAGE UNIT...\n       valex run LAYOUT IMAGE REPLIES STEPS UNIT...\n       valex show IMAGE ADDRESS COUNT\n       valex make SEED COUNT\n";
+    "usage: valex check LAYOUT IMAGE UNIT...\n       valex run LAYOUT IMAGE REPLIES STEPS UNIT...\n       valex show IMAGE ADDRESS COUNT\n       valex make SEED COUNT\n       valex upgrade UNIT\n";
 
 const CHECK: &[&str] = &["check", "layout.json", "image.elf", "a.json"];
 
@@ -80,14 +80,14 @@ fn statuses_and_texts(rt: HostRuntime) -> Result<(), AllocError> {
 #[test]
 fn an_image_is_too_long(rt: HostRuntime) -> Result<(), AllocError> {
     let alloc = rt.alloc();
-    let image = vec![in alloc; 0u8; 16_777_217]?;
+    let image = vec![in alloc; 0u8; 33_554_433]?;
     let words = words_of(alloc, CHECK)?;
     let mut store = store_of(alloc, &image)?;
     let mut out = MemSink::new(alloc, 64, 64)?;
     assert_eq!(rt; valex(alloc, &words, &mut store, &mut out), 3);
     assert_eq!(rt;
         out.taken(),
-        b"refused image.elf store 1 too-long 16777216\n".as_slice()
+        b"refused image.elf store 1 too-long 33554432\n".as_slice()
     );
     Ok(())
 }

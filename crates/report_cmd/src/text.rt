@@ -15,7 +15,7 @@ use word_ops::hexadecimal::Hexadecimal;
 
 /// The commands, those that are not there yet too.
 const USAGE: &str =
-    "usage: valex check LAYOUT IMAGE UNIT...\n       valex run LAYOUT IMAGE REPLIES STEPS UNIT...\n       valex show IMAGE ADDRESS COUNT\n       valex make SEED COUNT\n";
+    "usage: valex check LAYOUT IMAGE UNIT...\n       valex run LAYOUT IMAGE REPLIES STEPS UNIT...\n       valex show IMAGE ADDRESS COUNT\n       valex make SEED COUNT\n       valex upgrade UNIT\n";
 
 impl fmt::Display for Owner {
     ghost output = { λ o. Some (owner_text o) };

@@ -2,7 +2,7 @@
 
 ghost use Rattle.std.specs.Prelude.{◌≡◌, ◌≤◌, length, All, IfOk, IfSome, IsTrue};
 ghost use Rattle.isa_model.specs.Instructions.{is_register, is_s16};
-ghost use Rattle.asm_syntax.specs.declared.limits.TheConstants.{MOST_INSTRUCTIONS};
+ghost use Rattle.limits.specs.declared.TheConstants.{MOST_INSTRUCTIONS};
 ghost use Rattle.checker.specs.Words.{IsAddiOrBlr};
 ghost use Rattle.serde_json.specs.View.{view, items_view};
 ghost use Rattle.report_cmd.specs.Steps.{Gives};
@@ -13,10 +13,10 @@ use crate::reader::{
     tree_of,
 };
 use asm_syntax::instr::{Code, Const, Function, Instr, Jump, Plain};
-use asm_syntax::limits::MOST_INSTRUCTIONS;
 use asm_syntax::name::Name;
 use asm_syntax::operations::AluImmOp;
 use asm_syntax::reg::Reg;
+use limits::MOST_INSTRUCTIONS;
 use serde_json::Value;
 use std::alloc::Global;
 

@@ -3,7 +3,7 @@
 ghost use Rattle.std.specs.Prelude.{◌≡◌, map, string_bytes};
 ghost use Rattle.report_cmd.specs.Words.{word_at, is_operand, is_command, limit_at};
 
-use crate::limits::{MOST_DUMP_BYTES, MOST_IMAGE_BYTES, MOST_LAYOUT_BYTES};
+use limits::{MOST_DUMP_BYTES, MOST_IMAGE_BYTES, MOST_LAYOUT_BYTES};
 
 /// The places of the files' names among the words.
 pub const LAYOUT: usize = 1;

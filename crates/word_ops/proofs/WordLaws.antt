@@ -1,14 +1,12 @@
 -- What the code's shifts and counts give.
-use Rattle.std.proofs.Common.{◌≡◌, ℕ, zero, suc, ◌+◌, ◌-◌, ◌*◌, ◌/◌, ◌%◌, ◌^◌, ◌<◌, ◌≤◌, ◌⊎◌, inl, inr, refl, ap, subst, sym, ◌∙◌, arith, pow-add}
-use Rattle.std.specs.Prelude.{ℤ, ◌*ℤ◌, FitsSigned}
-use Rattle.std.specs.Int.{cast_signed, cast_unsigned, w32, w64}
+use Rattle.std.proofs.Common.{◌≡◌, ℕ, zero, suc, ◌+◌, ◌-◌, ◌*◌, ◌/◌, ◌%◌, ◌^◌, ◌<◌, ◌≤◌, inl, inr, ap, subst, sym, ◌∙◌, arith, pow-add}
 use Rattle.std.specs.Int.Count.{count_leading_zeros, leading_unique}
 use Rattle.std.proofs.lemmas.Int.{to_z-of_z}
 use Rattle.std.proofs.lemmas.Bool.{lt-ltb, le-ltb, cases_lt}
 use Rattle.std.proofs.Math.Pow.{pow_mono}
 use Rattle.std.proofs.Math.Nat.{mul-le-mul_right, mod-lt, div-lt_iff_lt-mul}
 use Rattle.std.proofs.lemmas.Nat.{mod-mul-add, pow_pos}
-use Rattle.isa_model.specs.Word.{clz, zeros_above, signed_word, mulh_s}
+use Rattle.isa_model.specs.Word.{clz, zeros_above}
 
 zeros_length : (k a : ℕ) → a < 2 ^ k → (m : ℕ) × (zeros_above k a + m ≡ k) × (a < 2 ^ m) × (2 ^ m ≤ 2 * a + 1)
 zeros_length zero a h = (0, omega arith, h, omega arith)
@@ -50,6 +48,9 @@ rotated_below a k h hk =
     let below : a < 2 ^ k * 2 ^ (32 - k) = rw e h in
     let fits = rotation_fits a (2 ^ k) (2 ^ (32 - k)) below (pow_pos (32 - k)) in
     subst (λ n. a * 2 ^ k % n + a / 2 ^ (32 - k) < n) e fits
+
+pub power_within : (n : ℕ) → n ≤ 32 → 2 ^ n ≤ 2 ^ 32
+power_within n h = pow_mono h
 
 -- a longer mask has more ones
 pub power_below : (i j : ℕ) → i ≤ j → 2 ^ i ≤ 2 ^ j

@@ -1,10 +1,13 @@
 // Arithmetic of words, by shifts and sums that wrap.
-ghost use Rattle.std.specs.Prelude.{◌≡◌, ◌≤◌, ◌<◌, FitsSigned};
+ghost use Rattle.std.specs.Prelude.{◌≡◌, ◌+◌, ◌/◌, ◌^◌, ◌≤◌, ◌<◌, FitsSigned, int_lt};
 ghost use Rattle.std.specs.Int.{w32};
 ghost use Rattle.isa_model.specs.Word.{
+  HalvesJoin,
   ha,
   hi,
   lo,
+  wrapped,
+  sext8,
   sext16,
   sext26,
   rotl,
@@ -40,6 +43,14 @@ pub fn lo(a: u32) -> u32
     a & 0xffff
 }
 
+/// The low 8 bits, sign-extended. Power ISA 2.07, extsb.
+pub fn sext8(b: u32) -> u32
+    ensures { result ≡ sext8 b }
+{
+    let low = b & 0xff;
+    if low < 0x80 { low } else { low + 0xffff_ff00 }
+}
+
 /// The low 16 bits, sign-extended. Power ISA 2.07, EXTS of an immediate.
 pub fn sext16(h: u32) -> u32
     ensures { result ≡ sext16 h }
@@ -62,7 +73,8 @@ pub fn sext26(h: u32) -> u32
 
 /// The address itself, joined from its two halves as `@ha` and `@l` give them.
 pub fn halves_joined(a: u32) -> u32
-    ensures { result ≡ a }
+    ensures same { result ≡ a }
+    ensures law { HalvesJoin }
 {
     (ha(a) << 16).wrapping_add(sext16(lo(a)))
 }
@@ -80,24 +92,32 @@ pub fn rotl(a: u32, n: u32) -> u32
     }
 }
 
-/// Ones from the bit `mb` to the lowest, and none where `mb` is 32.
-fn ones_from(mb: u32) -> u64
-    requires { mb ≤ 32 }
-    ensures { result ≡ ones_from mb }
+/// A power of two, at most 2^32.
+#[tactic(auto, using(crate::proofs::WordLaws::power_within))]
+pub fn power_of_two(n: u32) -> u64
+    requires { n ≤ 32 }
+    ensures value { result ≡ 2 ^ n }
+    ensures range { result ≤ 2 ^ 32 }
 {
-    (1 << (32 - mb)) - 1
+    1 << n
+}
+
+/// Ones from the bit `mb` to the lowest, and none from 32 on.
+fn ones_from(mb: u64) -> u64
+    ensures value { result ≡ ones_from mb }
+    ensures range { result < 2 ^ 32 }
+{
+    if mb < 32 { (1 << (32 - mb)) - 1 } else { 0 }
 }
 
 /// Ones from the bit `mb` to the bit `me`, bit 0 the highest, around the end where `mb` is above `me`.
-/// Power ISA 2.07, MASK.
+/// A number of 32 or more is behind the lowest bit. Power ISA 2.07, MASK.
 #[tactic(auto, using(crate::proofs::WordLaws::power_below))]
 pub fn mask(mb: u32, me: u32) -> u32
-    requires first { mb ≤ 31 }
-    requires last { me ≤ 31 }
     ensures { result ≡ mask mb me }
 {
-    let from_first = ones_from(mb);
-    let past_last = ones_from(me + 1);
+    let from_first = ones_from(u64::from(mb));
+    let past_last = ones_from(u64::from(me) + 1);
     let ones = if mb <= me {
         from_first - past_last
     } else {
@@ -116,6 +136,15 @@ pub fn carry_add(a: u32, b: u32, c: bool) -> (u32, bool)
     (sum, first || second)
 }
 
+/// The sum of three words modulo 2^32, and the carry out, which is 0, 1 or 2.
+pub fn sum_of_three(x: u32, y: u32, z: u32) -> (u32, u32)
+    ensures sum { result.0 ≡ wrapped (x + y + z) }
+    ensures carry { result.1 ≡ (x + y + z) / 2 ^ 32 }
+{
+    let sum = u64::from(x) + u64::from(y) + u64::from(z);
+    ((sum & 0xffff_ffff) as u32, (sum >> 32) as u32)
+}
+
 /// A word as a number with a sign.
 #[tactic(auto, using(crate::proofs::WordLaws::casts))]
 fn signed(a: u32) -> i64
@@ -123,6 +152,13 @@ fn signed(a: u32) -> i64
     ensures range { FitsSigned w32 result }
 {
     i64::from(a.cast_signed())
+}
+
+/// Whether a word is below another, both with a sign. Power ISA 2.07, cmpw.
+pub fn is_less_signed(a: u32, b: u32) -> bool
+    ensures { result ≡ int_lt (signed_word a) (signed_word b) }
+{
+    a.cast_signed() < b.cast_signed()
 }
 
 /// The high word of the signed product. Power ISA 2.07, mulhw.

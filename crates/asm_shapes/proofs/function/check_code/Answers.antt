@@ -9,5 +9,6 @@ returns-in_err-check_instr g c =
     let fault = c.in_err-check_instr.field-0.0 in
     let code = g.C.Labelled.code c.args.code.now in
     let here : first_fault (instr_tests code c.loop-at.at c.index-instrs-at.result) ≡ Some fault = sym c.in_err-check_instr.ensures in
-    let all = numbered_place_fails (place_tests code) c.code-instrs.result.now c.loop-at.at c.index-instrs-at.result fault (omega arith) c.index-instrs-at.is here in
+    let all = numbered_place_fails (place_tests code) c.code-instrs.result.now c.loop-at.at c.index-instrs-at.result fault
+    (omega arith) c.index-instrs-at.is here in
     grind (arith, all)

@@ -3,4 +3,5 @@ use Rattle.asm_shapes.specs.Units.{is_among}
 use Rattle.asm_shapes.proofs.unit.has_name.Given as goal
 
 abbrev pub invariant-loop-item : goal.invariant-loop-item
-invariant-loop-item g l = is_among (map g.T.Named.name_of (drop l.item-index l.items)) l.name ≡ is_among (map g.T.Named.name_of l.items) l.name
+invariant-loop-item g l = is_among (map g.T.Named.name_of (drop l.item-index l.items)) l.name
+    ≡ is_among (map g.T.Named.name_of l.items) l.name

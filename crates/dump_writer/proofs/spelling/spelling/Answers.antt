@@ -1,5 +1,5 @@
-use Rattle.dump_trees.specs.Spellings.{spelling}
-use Rattle.dump_trees.proofs.Mnemonics.{found, row_has, row_differs}
+use Rattle.dump_model.specs.Spellings.{spelling}
+use Rattle.dump_model.proofs.Mnemonics.{found, row_has, row_differs}
 use Rattle.dump_writer.proofs.spelling.spelling.Goals as goal
 
 pub loop-word-init : goal.loop-word-init

@@ -1,7 +1,7 @@
 use Rattle.std.proofs.Common.{◌≡◌, map, drop, Some}
 use Rattle.json_tree.specs.Tables.{row}
-use Rattle.dump_trees.specs.Spellings.{spelling}
-use Rattle.dump_trees.proofs.Mnemonics.{word_in}
+use Rattle.dump_model.specs.Spellings.{spelling}
+use Rattle.dump_model.proofs.Mnemonics.{word_in}
 use Rattle.dump_writer.proofs.spelling.spelling.Given as goal
 
 -- the form stands among the rows that are left

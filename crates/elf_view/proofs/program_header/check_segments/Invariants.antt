@@ -3,7 +3,7 @@ use Rattle.ordered_tests.specs.Checks.{first_fault, each_check, from_to}
 use Rattle.image_model.specs.FileHeader.{e_phnum}
 use Rattle.image_model.specs.ProgramHeader.{loads_before}
 use Rattle.image_model.specs.Tests.{total_memsz, numbered_segment_tests, segments_tests}
-use Rattle.image_model.specs.declared.limits.TheConstants.{MOST_LOADED_BYTES}
+use Rattle.limits.specs.declared.TheConstants.{MOST_LOADED_BYTES}
 use Rattle.elf_view.proofs.program_header.check_segments.Given as goal
 
 -- the headers from i on decide

@@ -11,7 +11,15 @@ room value i n fits below few =
     omega arith
 
 pub overflow_mul-value : goal.overflow_mul-value
-overflow_mul-value c = omega (arith, room c.loop-byte.value c.loop-byte.byte-index _ c.loop-byte.invariant.fits c.loop-byte-test.true c.requires.few)
+overflow_mul-value c = omega (
+  arith,
+  room c.loop-byte.value c.loop-byte.byte-index _ c.loop-byte.invariant.fits c.loop-byte-test.true
+      c.requires.few,
+)
 
 pub overflow_add-value : goal.overflow_add-value
-overflow_add-value c = omega (arith, room c.loop-byte.value c.loop-byte.byte-index _ c.loop-byte.invariant.fits c.loop-byte-test.true c.requires.few)
+overflow_add-value c = omega (
+  arith,
+  room c.loop-byte.value c.loop-byte.byte-index _ c.loop-byte.invariant.fits c.loop-byte-test.true
+      c.requires.few,
+)

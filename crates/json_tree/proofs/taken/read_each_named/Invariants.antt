@@ -9,5 +9,7 @@ abbrev pub invariant-loop-value : goal.invariant-loop-value
 invariant-loop-value g l = record {
   count : length l.items.items ≡ l.value-index;
   names : l.taken ≡ with_names l.initial.taken (map g.P.ReadsNamed.name_of l.items.items);
-  rest : with_front l.items.items (each_from (λ left x. with_name left (g.P.ReadsNamed.name_of x)) g.P.ReadsNamed.reads l.taken l.value-index (map view (drop l.value-index l.values))) ≡ each_named g.P.ReadsNamed.name_of g.P.ReadsNamed.reads l.initial.taken (map view l.values);
+  rest : with_front l.items.items (each_from (λ left x. with_name left (g.P.ReadsNamed.name_of x)) g.P.ReadsNamed.reads l.taken
+      l.value-index (map view (drop l.value-index l.values))) ≡ each_named g.P.ReadsNamed.name_of g.P.ReadsNamed.reads l.initial.taken
+      (map view l.values);
 }

@@ -1,5 +1,5 @@
 use Rattle.std.proofs.Common.{◌≡◌, ◌++◌, map, take}
-use Rattle.layout_file.specs.Seen.{extent_of}
+use Rattle.word_ops.specs.Seen.{extent_of}
 use Rattle.layout_file.proofs.layout.push_spans.Given as goal
 
 abbrev pub invariant-loop-span : goal.invariant-loop-span

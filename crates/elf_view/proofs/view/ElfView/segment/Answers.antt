@@ -9,5 +9,6 @@ pub returns-clause-lent : goal.returns-clause-lent
 unfolding image_of
 returns-clause-lent c =
     let v = c.args.self.now in
-    let shown : slice_get v.segments c.args.i ≡ Some (segment_seen c.segment.result) = ap (λ (x : Image). slice_get x.segments c.args.i) (sym c.self.view_is) ∙ c.segment.ensures.shown in
+    let shown : slice_get v.segments c.args.i ≡ Some (segment_seen c.segment.result) = ap (λ
+    (x : Image). slice_get x.segments c.args.i) (sym c.self.view_is) ∙ c.segment.ensures.shown in
     segment_part v c.args.i (segment_seen c.segment.result) shown

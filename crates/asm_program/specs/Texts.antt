@@ -1,0 +1,6 @@
+-- Borrowed names, by their bytes.
+use Rattle.std.specs.Prelude.{ℕ, List, map}
+use Rattle.std.specs.Borrow.{Bor}
+
+abbrev pub texts : List (Bor (List ℕ)) → List (List ℕ)
+texts names = map (λ (n : Bor (List ℕ)). n.now) names

@@ -1,0 +1,9 @@
+pub mod LinkedCode
+pub mod Callable
+pub mod State
+pub mod Jumps
+pub mod Frames
+pub mod Calls
+pub mod Bytes
+pub mod Steps
+pub mod Answers

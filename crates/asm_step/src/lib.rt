@@ -1,0 +1,9 @@
+//! One step of the assembly machine over what it reads of a linked program: plain instructions, branches, tables, frames and calls.
+#![tactic(auto)]
+
+pub mod answer;
+mod buffers;
+pub mod executable;
+pub mod machine;
+#[cfg(test)]
+mod tests;

@@ -1,0 +1,10 @@
+pub mod Fields
+pub mod SmallData
+pub mod Forms
+pub mod Spelling
+pub mod WordChecks
+pub mod Addresses
+pub mod Areas
+pub mod Code
+pub mod FunctionChecks
+pub mod Variables

@@ -1,0 +1,4 @@
+pub mod Stretches
+pub mod Items
+pub mod Writable
+pub mod Whole

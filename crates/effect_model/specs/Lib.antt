@@ -1,0 +1,5 @@
+pub mod Meaning
+pub mod Files
+pub mod Calls
+pub mod Forms
+pub mod Rows

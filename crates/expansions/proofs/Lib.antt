@@ -1,0 +1,5 @@
+pub mod Reading
+pub mod Tables
+pub mod Walks
+pub mod Places
+pub mod Spellings

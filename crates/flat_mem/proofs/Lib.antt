@@ -1,0 +1,4 @@
+pub mod Regions
+pub mod Kept
+pub mod Loops
+pub mod ImageLaw

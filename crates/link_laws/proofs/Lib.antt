@@ -1,0 +1,26 @@
+mod Ranges
+mod Items
+mod Addresses
+mod Overlaps
+mod Sizes
+mod Apartness
+mod Words
+mod Functions
+mod Variables
+mod Covered
+mod Loading
+mod CodeTests
+mod KeyTests
+mod Passes
+mod Strays
+mod First
+mod Keys
+mod Names
+mod Linked
+mod Entry
+mod Whole
+mod Targets
+mod Places
+mod Fitting
+mod Runs
+pub mod Proofs

@@ -1,0 +1,5 @@
+mod RowParts
+mod CodeRows
+mod DataRows
+mod LinkRows
+mod AccountRows

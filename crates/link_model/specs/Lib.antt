@@ -1,0 +1,13 @@
+pub mod Sets
+pub mod Program
+pub mod Numbers
+pub mod LinkTests
+pub mod Candidates
+pub mod Uses
+pub mod Binding
+pub mod Claims
+pub mod Kinds
+pub mod Account
+pub mod Parts
+pub mod Overlaps
+pub mod Passes

@@ -1,0 +1,15 @@
+//! The addresses of the symbols that names mean.
+#![tactic(auto)]
+
+ghost use Rattle.std.specs.Prelude.{◌≡◌, ℕ, List};
+
+use asm_syntax::name::Name;
+
+/// What gives each name that a unit uses the address of its symbol.
+pub trait NameAddresses {
+    ghost address: { Self → List ℕ → ℕ };
+
+    /// The address of the name's symbol.
+    fn address_of(&self, name: &Name) -> u32
+        ensures { result ≡ address self.now name.now };
+}

@@ -1,0 +1,4 @@
+pub mod CallLaws
+pub mod KeptLaws
+pub mod SigLaws
+pub mod Quiet

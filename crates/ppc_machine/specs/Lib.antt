@@ -1,0 +1,9 @@
+pub mod Actions
+pub mod State
+pub mod Externals
+pub mod Replies
+pub mod Buffers
+pub mod Steps
+pub mod Starts
+pub mod Answers
+pub mod Kept

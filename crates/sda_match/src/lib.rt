@@ -1,0 +1,9 @@
+//! How the word of an instruction with a small-data constant differs from it.
+#![tactic(auto)]
+
+pub mod area;
+pub mod diff;
+pub mod matching;
+#[cfg(test)]
+mod tests;
+pub mod word;

@@ -1,0 +1,151 @@
+//! Small data about r13, r2 and 0, and words that reach something else.
+
+use crate::diff::SdaDiff;
+use crate::matching::match_sda;
+use asm_syntax::instr::{Const, Plain};
+use asm_syntax::name::Name;
+use asm_syntax::operations::{AluImmOp, LoadOp, StoreOp};
+use asm_syntax::reg::Reg;
+use asm_syntax::rule::Rule;
+use layout_file::layout::Layout;
+use layout_file::read_layout;
+use std::alloc::Global;
+use std::test::Fail;
+
+// An area of each register's kind. In the second layout r13 reaches the area of r2.
+static LAYOUTS: [&str; 2] = [
+    r#"{"valex":"layout","version":1,"entry":"main","stop":"0x10000000","stack":["0x20000000","0x20010000"],"r13":"0x10038000","r2":"0x10048000","areas":[{"name":"a","range":["0x1000","0x2000"],"kind":"sda0"},{"name":"b","range":["0x10030000","0x10031000"],"kind":"sda13"},{"name":"c","range":["0x10040000","0x10041000"],"kind":"sda2"}],"foreign":[],"pins":[]}"#,
+    r#"{"valex":"layout","version":1,"entry":"main","stop":"0x10000000","stack":["0x20000000","0x20010000"],"r13":"0x10040000","r2":"0x10048000","areas":[{"name":"c","range":["0x10040000","0x10041000"],"kind":"sda2"}],"foreign":[],"pins":[]}"#,
+];
+
+/// The texts, which proofs need not see.
+fn layouts() -> &'static [&'static str] {
+    &LAYOUTS
+}
+
+fn reg(n: u8) -> Result<Reg, Fail> {
+    Ok(Reg::new(n).ok_or("a register")?)
+}
+
+/// The constant's part of an instruction with r3.
+#[derive(Clone, Copy, Drop)]
+enum Form {
+    Addi,
+    Lwz,
+    Stw,
+}
+
+fn instruction(alloc: Global, form: Form) -> Result<Plain, Fail> {
+    let x = Name::from_bytes(alloc, b"x").ok().ok_or("a name")?;
+    let c = Const::Sda(x, 0);
+    Ok(match form {
+        Form::Addi => Plain::AluImm(AluImmOp::Addi, reg(3)?, reg(0)?, c),
+        Form::Lwz => Plain::Load(LoadOp::Lwz, reg(3)?, c, reg(0)?),
+        Form::Stw => Plain::Store(StoreOp::Stw, reg(3)?, c, reg(0)?),
+    })
+}
+
+/// The number of a layout, the instruction's form, its word, the symbol's address, and what is wrong: the rule, the item, and what
+/// is wanted and found.
+type Case = (usize, Form, u32, u32, Option<(Rule, u32, u32, u32)>);
+
+static CASES: [Case; 13] = [
+    (0, Form::Lwz, 0x806d_8010, 0x1003_0010, None),
+    (0, Form::Lwz, 0x8062_8010, 0x1004_0010, None),
+    (0, Form::Lwz, 0x8060_1010, 0x0000_1010, None),
+    (0, Form::Addi, 0x386d_8010, 0x1003_0010, None),
+    (0, Form::Stw, 0x906d_8010, 0x1003_0010, None),
+    (
+        0,
+        Form::Lwz,
+        0x906d_8010,
+        0x1003_0010,
+        Some((Rule::Opcode, 0, 0x8060_0000, 0x906d_8010)),
+    ),
+    (
+        0,
+        Form::Lwz,
+        0x808d_8010,
+        0x1003_0010,
+        Some((Rule::Field, 0, 0x806d_8010, 0x808d_8010)),
+    ),
+    (
+        0,
+        Form::Lwz,
+        0x8065_8010,
+        0x1003_0010,
+        Some((Rule::Sda, 1, 13, 5)),
+    ),
+    (
+        0,
+        Form::Lwz,
+        0x806d_8014,
+        0x1003_0010,
+        Some((Rule::Sda, 2, 0x1003_0010, 0x1003_0014)),
+    ),
+    (
+        0,
+        Form::Lwz,
+        0x8062_8010,
+        0x1003_0010,
+        Some((Rule::Sda, 2, 0x1003_0010, 0x1004_0010)),
+    ),
+    (
+        0,
+        Form::Lwz,
+        0x8060_0010,
+        0x0000_0010,
+        Some((Rule::Sda, 3, 0, 0xffff_ffff)),
+    ),
+    (
+        0,
+        Form::Lwz,
+        0x806d_9000,
+        0x1003_1000,
+        Some((Rule::Sda, 3, 13, 0xffff_ffff)),
+    ),
+    (
+        1,
+        Form::Lwz,
+        0x806d_0010,
+        0x1004_0010,
+        Some((Rule::Sda, 3, 13, 2)),
+    ),
+];
+
+fn cases() -> &'static [Case] {
+    &CASES
+}
+
+fn layout_of(alloc: Global, number: usize) -> Result<Layout, Fail> {
+    let text = layouts().get(number).ok_or("a layout's text")?;
+    Ok(read_layout(alloc, text.as_bytes()).ok().ok_or("a layout")?)
+}
+
+fn judged(plain: &Plain, word: u32, target: u32, layout: &Layout) -> Option<Result<(), SdaDiff>> {
+    if plain.has_small_data() {
+        Some(match_sda(plain, word, target, layout))
+    } else {
+        None
+    }
+}
+
+#[test]
+fn small_data_and_its_differences(rt: HostRuntime) -> Result<(), Fail> {
+    let alloc = rt.alloc();
+    for (number, form, word, target, wrong) in cases() {
+        let layout = layout_of(alloc, *number)?;
+        let plain = instruction(alloc, *form)?;
+        let want = match *wrong {
+            Some((rule, item, wanted, found)) => Err(SdaDiff {
+                rule,
+                item,
+                wanted,
+                found,
+            }),
+            None => Ok(()),
+        };
+        assert_eq!(rt; judged(&plain, *word, *target, &layout), Some(want));
+    }
+    Ok(())
+}

@@ -1,0 +1,5 @@
+pub mod AddressSets
+pub mod Open
+pub mod Keys
+pub mod Given
+pub mod Offers
