@@ -36,11 +36,11 @@ cells_set [] i c = refl
 cells_set (x ∷ xs) zero c = refl
 cells_set (x ∷ xs) (suc i) c = ap suc (cells_set xs i c)
 
-set_cells_length : (k : Live) (o : ℕ) (cs : List Cell) → length (set_cells k o cs).cells ≡ length k.cells
+pub set_cells_length : (k : Live) (o : ℕ) (cs : List Cell) → length (set_cells k o cs).cells ≡ length k.cells
 set_cells_length k o [] = refl
 set_cells_length k o (c ∷ cs) = set_cells_length (set_cell k o c) (o + 1) cs ∙ cells_set k.cells o c
 
-set_cells_number : (k : Live) (o : ℕ) (cs : List Cell) → (set_cells k o cs).number ≡ k.number
+pub set_cells_number : (k : Live) (o : ℕ) (cs : List Cell) → (set_cells k o cs).number ≡ k.number
 set_cells_number k o [] = refl
 set_cells_number k o (c ∷ cs) = set_cells_number (set_cell k o c) (o + 1) cs
 

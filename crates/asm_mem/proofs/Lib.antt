@@ -4,3 +4,4 @@ pub mod Pushing
 pub mod Writing
 pub mod Counting
 pub mod Placing
+pub mod Filling

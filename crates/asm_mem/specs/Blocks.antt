@@ -1,9 +1,9 @@
 -- Blocks of memory, the newest first: what is loaded, stored, made and freed.
-use Rattle.std.specs.Prelude.{ℕ, zero, suc, ◌+◌, ◌%◌, Bool, false, ◌&&◌, ◌||◌, ◌==◌, nat_le, if◌then◌else◌, List, [], ◌∷◌, length, replicate, drop, slice_index_or, slice_set, Option, Some, None, find, option_map, option_and_then}
+use Rattle.std.specs.Prelude.{ℕ, zero, suc, ◌+◌, ◌%◌, Bool, false, ◌&&◌, ◌||◌, ◌==◌, nat_le, if◌then◌else◌, List, [], ◌∷◌, length, map, replicate, drop, slice_index_or, slice_set, Option, Some, None, find, option_map, option_and_then}
 use Rattle.asm_mem.specs.declared.value.Val.{Val}
 use Rattle.asm_mem.specs.declared.value.Val.TheVariants.{Ptr}
 use Rattle.asm_mem.specs.declared.cell.Cell.{Cell}
-use Rattle.asm_mem.specs.declared.cell.Cell.TheVariants.{Nothing}
+use Rattle.asm_mem.specs.declared.cell.Cell.TheVariants.{Nothing, Byte}
 use Rattle.asm_mem.specs.Cells.{joined, four_bytes, half_word, byte_word, byte_in, byte_cell, cells_of, reversed_cells, empty_word}
 
 -- a live block
@@ -114,6 +114,10 @@ written live b o v = update b (λ k. write_block k 4 o v) live
 -- one cell becomes a byte, or nothing
 abbrev pub with_byte : List Live → ℕ → ℕ → Option ℕ → List Live
 with_byte live b o x = update b (λ k. set_cell k o (byte_cell x)) live
+
+-- cells from an offset on become bytes
+abbrev pub with_bytes : List Live → ℕ → ℕ → List ℕ → List Live
+with_bytes live b o xs = update b (λ k. set_cells k o (map Byte xs)) live
 
 -- four cells become empty
 abbrev pub emptied : List Live → ℕ → ℕ → List Live

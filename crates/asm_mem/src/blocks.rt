@@ -1,7 +1,7 @@
 //! All blocks: what is made and freed, loads and stores, comparisons and differences of values.
 
-ghost use Rattle.std.specs.Prelude.{◌≡◌, ◌<◌, ◌≤◌, ◌+◌, ◌%◌, ℕ, [], length, reverse, slice_index_or, find, IfSome, IfNone, IfOk, OnErr, IsTrue, ◌==◌, ◌&&◌, if◌then◌else◌};
-ghost use Rattle.asm_mem.specs.Blocks.{Live, byte_at, emptied, forget, has, is_width, load, load_reversed, may_store, may_write_found, newest, popped, pushed, room, stored, stored_reversed, total, total_from, update, with_byte, written};
+ghost use Rattle.std.specs.Prelude.{◌≡◌, ◌<◌, ◌≤◌, ◌+◌, ◌%◌, ℕ, [], length, replicate, reverse, slice_index_or, find, IfSome, IfNone, IfOk, OnErr, IsTrue, ◌==◌, ◌&&◌, if◌then◌else◌};
+ghost use Rattle.asm_mem.specs.Blocks.{Live, byte_at, emptied, forget, has, is_width, load, load_reversed, may_store, may_write_found, newest, popped, pushed, room, stored, stored_reversed, total, total_from, update, with_byte, with_bytes, written};
 ghost use Rattle.asm_mem.specs.Comparison.{compared, difference_of, is_place, is_valid, of_words, reaches, unequal, unknown};
 ghost use Rattle.asm_mem.specs.Edits.{IsPlaced, edited};
 ghost use Rattle.asm_mem.specs.Order.{Rising};
@@ -288,6 +288,24 @@ impl Blocks {
         ensures { self.new ≡ record self.old { live = with_byte self.old.live block offset byte } }
     {
         self.edit(block, Edit::Set(offset, byte));
+    }
+
+    /// Makes cells from an offset on these bytes, as many as the block has, whether or not the block can be stored to.
+    pub fn set_bytes(&mut self, block: u32, offset: u32, bytes: &[u8])
+        ensures { self.new ≡ record self.old { live = with_bytes self.old.live block offset bytes.now } }
+    {
+        for i in 0..bytes.len() {
+            self.set_byte(block, u64::from(offset) + i as u64, Some(bytes[i]));
+        }
+    }
+
+    /// Makes so many cells from an offset on zero bytes, as many as the block has, whether or not the block can be stored to.
+    pub fn set_zeros(&mut self, block: u32, offset: u32, n: u32)
+        ensures { self.new ≡ record self.old { live = with_bytes self.old.live block offset (replicate n 0) } }
+    {
+        for i in 0..n {
+            self.set_byte(block, u64::from(offset) + u64::from(i), Some(0));
+        }
     }
 
     /// Makes four cells empty, whether or not the block can be stored to.

@@ -1,3 +1,4 @@
+pub mod SeenLists
 mod Places
 pub mod NameSets
 mod UnitNames
@@ -7,3 +8,11 @@ pub mod Entries
 pub mod Declarations
 pub mod FirstNames
 pub mod FirstsJoin
+pub mod ScopedNames
+pub mod NumberMaps
+pub mod KeyLists
+mod Tables
+pub mod StandingNames
+mod KeySteps
+mod SizeSteps
+mod SameExternals

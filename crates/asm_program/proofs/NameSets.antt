@@ -8,7 +8,7 @@ use Rattle.std.specs.Cmp.Lexicographic.{slice_cmp, nat_list_eq_equiv}
 use Rattle.std.specs.Ordering.{nat_cmp, is_eq}
 use Rattle.std.specs.BTreeSet.{insert_key}
 use Rattle.asm_syntax.specs.declared.unit.Unit.{Unit}
-use Rattle.asm_shapes.specs.Units.{function_name, variable_name, external_name, unit_names}
+use Rattle.asm_shapes.specs.Units.{function_name, variable_name, external_name}
 use Rattle.link_model.specs.Program.{defines, declares}
 use Rattle.asm_program.specs.Texts.{texts}
 use Rattle.std.proofs.lemmas.Map.Text.{is_eq-slice_cmp}
@@ -93,15 +93,19 @@ among name v [] = refl
 among name v (x ∷ xs) =
     ap (λ b. b || list_any (bytes_eq v) (map name xs)) (bytes_eq_swap v (name x)) ∙ ap (λ b. bytes_eq (name x) v || b) (among name v xs)
 
-or_assoc : (a b c : Bool) → (a || (b || c)) ≡ ((a || b) || c)
-or_assoc true b c = refl
-or_assoc false b c = refl
+-- the names of a unit's definitions, of its externals, and both
+pub defined_is : (v : List ℕ) (unit : Unit)
+    → list_any (bytes_eq v) (map function_name unit.functions ++ map variable_name unit.variables) ≡ defines unit v
+defined_is v unit =
+    list_any-append (bytes_eq v) (map function_name unit.functions) (map variable_name unit.variables)
+    ∙ (λ k. among function_name v unit.functions k || among variable_name v unit.variables k)
 
--- the names of a unit are those that it defines or declares
-pub known_is : (v : List ℕ) (unit : Unit) → list_any (bytes_eq v) (unit_names unit) ≡ (defines unit v || declares unit v)
+pub declared_is : (v : List ℕ) (unit : Unit) → list_any (bytes_eq v) (map external_name unit.externals) ≡ declares unit v
+declared_is v unit = among external_name v unit.externals
+
+pub known_is : (v : List ℕ) (unit : Unit)
+    → list_any (bytes_eq v) ((map function_name unit.functions ++ map variable_name unit.variables) ++ map external_name unit.externals)
+    ≡ (defines unit v || declares unit v)
 known_is v unit =
-    list_any-append (bytes_eq v) (map function_name unit.functions) (map variable_name unit.variables ++ map external_name unit.externals)
-    ∙ (ap (λ b. list_any (bytes_eq v) (map function_name unit.functions) || b)
-    (list_any-append (bytes_eq v) (map variable_name unit.variables) (map external_name unit.externals))
-    ∙ (or_assoc (list_any (bytes_eq v) (map function_name unit.functions)) (list_any (bytes_eq v) (map variable_name unit.variables)) (list_any (bytes_eq v) (map external_name unit.externals))
-    ∙ (λ k. (among function_name v unit.functions k || among variable_name v unit.variables k) || among external_name v unit.externals k)))
+    list_any-append (bytes_eq v) (map function_name unit.functions ++ map variable_name unit.variables) (map external_name unit.externals)
+    ∙ (λ k. defined_is v unit k || declared_is v unit k)

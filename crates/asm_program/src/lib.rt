@@ -1,12 +1,14 @@
-//! Units linked into a program.
+//! The tests of linking, and the keys that units make.
 #![tactic(auto)]
 
 pub mod declared;
 pub mod entry;
 pub mod firsts;
-pub mod joined;
+pub mod keys;
 pub mod names;
-#[cfg(test)]
-mod tests;
+pub mod numbers;
+pub mod repeats;
+pub mod sizes;
+pub mod standing;
 pub mod units;
 pub mod uses;

@@ -6,7 +6,7 @@ ghost use Rattle.std.specs.Str.{bytes_eq};
 ghost use Rattle.limits.specs.declared.TheConstants.{MOST_UNITS};
 ghost use Rattle.ordered_tests.specs.Answers.{Answers};
 ghost use Rattle.ordered_tests.specs.Steps.{all_pass};
-ghost use Rattle.asm_shapes.specs.Units.{function_name, variable_name, external_name, unit_names};
+ghost use Rattle.asm_shapes.specs.Units.{function_name, variable_name, external_name};
 ghost use Rattle.link_model.specs.Program.{function_names, variable_names, names_in, names_used};
 ghost use Rattle.link_model.specs.LinkTests.{name_tests, unit_name_tests};
 ghost use Rattle.ordered_tests.specs.Checks.{check};
@@ -67,22 +67,29 @@ pub fn names_used<'u>(alloc: Global, unit: &'u Unit) -> Result<NameList<'u>, All
     Ok(names)
 }
 
-/// The names of functions, of variables and of externals.
+/// The names of functions and of variables.
 #[tactic(auto, using(crate::proofs::Pieces::map_more))]
-pub fn unit_names<'u>(alloc: Global, unit: &'u Unit) -> Result<NameList<'u>, AllocError>
-    ensures { IfOk result (λ names. names ≡ unit_names unit.now) }
+fn add_definitions<'u>(names: &mut NameList<'u>, unit: &'u Unit) -> Result<(), AllocError>
+    ensures { OnOk result (names.new ≡ (names.old ++ map function_name unit.now.functions) ++ map variable_name unit.now.variables) }
 {
-    let mut names = NameList::new(alloc);
     for function in unit.functions.items() {
         names.push(&function.name)?;
     }
     for variable in unit.variables.items() {
         names.push(&variable.name)?;
     }
+    Ok(())
+}
+
+/// The names of externals.
+#[tactic(auto, using(crate::proofs::Pieces::map_more))]
+fn add_declarations<'u>(names: &mut NameList<'u>, unit: &'u Unit) -> Result<(), AllocError>
+    ensures { OnOk result (names.new ≡ names.old ++ map external_name unit.now.externals) }
+{
     for external in unit.externals.items() {
         names.push(&external.name)?;
     }
-    Ok(names)
+    Ok(())
 }
 
 /// The names of a list as a set.
@@ -96,11 +103,33 @@ fn set_of<'u>(alloc: Global, list: &NameList<'u>) -> Result<Names<'u>, AllocErro
     Ok(set)
 }
 
+/// The names of all that a unit defines.
+pub fn defined_names<'u>(alloc: Global, unit: &'u Unit) -> Result<Names<'u>, AllocError>
+    ensures { IfOk result (λ set. (v : List ℕ) → list_any (bytes_eq v) set ≡ defines unit.now v) }
+{
+    let mut list = NameList::new(alloc);
+    add_definitions(&mut list, unit)?;
+    let set = set_of(alloc, &list)?;
+    Ok(set)
+}
+
+/// The names of all externals that a unit declares.
+pub fn declared_names<'u>(alloc: Global, unit: &'u Unit) -> Result<Names<'u>, AllocError>
+    ensures { IfOk result (λ set. (v : List ℕ) → list_any (bytes_eq v) set ≡ declares unit.now v) }
+{
+    let mut list = NameList::new(alloc);
+    add_declarations(&mut list, unit)?;
+    let set = set_of(alloc, &list)?;
+    Ok(set)
+}
+
 /// The names of all that a unit defines or declares.
 fn known_names<'u>(alloc: Global, unit: &'u Unit) -> Result<Names<'u>, AllocError>
     ensures { IfOk result (λ set. (v : List ℕ) → list_any (bytes_eq v) set ≡ (defines unit.now v || declares unit.now v)) }
 {
-    let list = unit_names(alloc, unit)?;
+    let mut list = NameList::new(alloc);
+    add_definitions(&mut list, unit)?;
+    add_declarations(&mut list, unit)?;
     let set = set_of(alloc, &list)?;
     Ok(set)
 }

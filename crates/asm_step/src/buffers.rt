@@ -22,6 +22,7 @@ use asm_syntax::unit::{Buffer, ByteList, Reply, Size, Width};
 use asm_values::registers::Registers;
 use call_bytes::bytes::CallBytes;
 use effect_model::Place;
+use effect_ops::calls::volatile;
 use limits::{MOST_BUFFER_BYTES, MOST_BUFFERS};
 
 fn is_argument(blocks: &Blocks, v: Val) -> bool
@@ -219,23 +220,6 @@ pub fn read_all(
 
 // ---- filling
 
-/// Makes the cell `i` from an offset on the byte `i`.
-fn fill_byte(blocks: &mut Blocks, b: u32, o: u32, bytes: &[u8], i: usize)
-    requires { i < length bytes.now }
-    ensures { blocks.new ≡ record blocks.old { live = with_byte blocks.old.live b (o + i) (Some (slice_index_or bytes.now i 0)) } }
-{
-    blocks.set_byte(b, u64::from(o) + i as u64, Some(bytes[i]));
-}
-
-/// Makes cells from an offset on these bytes, as many as the block has.
-fn fill_bytes(blocks: &mut Blocks, b: u32, o: u32, bytes: &[u8])
-    ensures { blocks.new ≡ record blocks.old { live = update b (λ k. set_cells k o (map Byte bytes.now)) blocks.old.live } }
-{
-    for i in 0..bytes.len() {
-        fill_byte(blocks, b, o, bytes, i);
-    }
-}
-
 #[tactic(auto, using(crate::proofs::Filling::take_all))]
 fn fill_value(blocks: &mut Blocks, at: Val, size: Val, bytes: &[u8])
     ensures { blocks.new ≡ record blocks.old { live = fill_at blocks.old.live at size bytes.now } }
@@ -245,9 +229,9 @@ fn fill_value(blocks: &mut Blocks, at: Val, size: Val, bytes: &[u8])
             Val::Int(n) => {
                 let n = n as usize;
                 if n < bytes.len() {
-                    fill_bytes(blocks, b, o, &bytes[..n]);
+                    blocks.set_bytes(b, o, &bytes[..n]);
                 } else {
-                    fill_bytes(blocks, b, o, bytes);
+                    blocks.set_bytes(b, o, bytes);
                 }
             }
             _ => (),
@@ -289,50 +273,6 @@ pub fn fill_all(
 }
 
 // ---- what a call leaves
-
-static VOLATILE: [Place; 35] = [
-    Place::Gpr(0),
-    Place::Gpr(3),
-    Place::Gpr(4),
-    Place::Gpr(5),
-    Place::Gpr(6),
-    Place::Gpr(7),
-    Place::Gpr(8),
-    Place::Gpr(9),
-    Place::Gpr(10),
-    Place::Gpr(11),
-    Place::Gpr(12),
-    Place::Ctr,
-    Place::Lr,
-    Place::Ca,
-    Place::So,
-    Place::Bit(0),
-    Place::Bit(1),
-    Place::Bit(2),
-    Place::Bit(3),
-    Place::Bit(4),
-    Place::Bit(5),
-    Place::Bit(6),
-    Place::Bit(7),
-    Place::Bit(20),
-    Place::Bit(21),
-    Place::Bit(22),
-    Place::Bit(23),
-    Place::Bit(24),
-    Place::Bit(25),
-    Place::Bit(26),
-    Place::Bit(27),
-    Place::Bit(28),
-    Place::Bit(29),
-    Place::Bit(30),
-    Place::Bit(31),
-];
-
-fn volatile() -> &'static [Place]
-    ensures { result.now ≡ volatile }
-{
-    &VOLATILE
-}
 
 fn result_value(width: Option<Width>, r: &Reply, p: Place) -> Val
     ensures { result ≡ result_value width r.now p }

@@ -1,2 +1,14 @@
 pub mod Sorting
 pub mod Meetings
+pub mod Settled
+pub mod Positions
+pub mod Outside
+pub mod LayoutStretches
+pub mod Stretching
+pub mod Runs
+pub mod KindFacts
+pub mod KindStretches
+pub mod Sweeping
+pub mod Counting
+pub mod Reordered
+pub mod Added

@@ -1,11 +1,14 @@
 -- Claims in the order of their addresses, and the first that meets one before it.
-use Rattle.std.specs.Prelude.{◌≡◌, ◌<◌, ℕ, suc, ◌+◌, ◌*◌, List, [], ◌∷◌, slice_index_or, Option, Some, None, option_map, if◌then◌else◌}
+use Rattle.std.specs.Prelude.{◌≡◌, ◌<◌, ℕ, suc, ◌+◌, ◌*◌, List, [], ◌∷◌, slice_index_or, Option, Some, None, option_map, slice_get, if◌then◌else◌}
+use Rattle.std.specs.Option.{option_map_or}
 use Rattle.ordered_tests.specs.Checks.{Check}
 use Rattle.word_ops.specs.Ranges.{Extent, meets}
 use Rattle.word_ops.specs.Seen.{extent_of}
 use Rattle.link_model.specs.Claims as model
-use Rattle.link_model.specs.Overlaps.{has_addresses}
+use Rattle.link_model.specs.Overlaps.{has_addresses, no_claim, overlap_fault}
+use Rattle.link_model.specs.declared.fault.Fault.{Fault}
 use Rattle.coverage.specs.declared.claims.Claim.{Claim}
+use Rattle.coverage.specs.declared.claims.Meeting.{Meeting}
 use Rattle.coverage.specs.declared.claims.Kept.{Kept}
 
 abbrev pub claim_seen : Claim → model.Claim
@@ -13,6 +16,14 @@ claim_seen c = model.claim (extent_of c.range) c.owner
 
 abbrev pub kept_seen : Kept → model.Claim
 kept_seen k = claim_seen k.claim
+
+abbrev pub meeting_fault : Meeting → Fault
+meeting_fault m = overlap_fault (claim_seen m.before.now) (claim_seen m.claim.now)
+
+-- the claim at a place, or none
+abbrev pub claim_before : List Kept → Option ℕ → model.Claim
+claim_before ks None = no_claim
+claim_before ks (Some i) = option_map_or kept_seen (slice_get ks i) no_claim
 
 -- the order of claims as one number: by lo, then by hi, then by place
 abbrev pub rank : Kept → ℕ

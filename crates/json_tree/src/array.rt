@@ -17,10 +17,8 @@ use std::alloc::Global;
 pub fn items(alloc: Global, tree: &Value) -> Result<&Vec<Value>, ReadError>
     ensures { GivesAs (λ values. map view values.now.items) result (items (view tree.now)) }
 {
-    match tree.as_array() {
-        Some(values) => Ok(values),
-        None => Err(ReadError::here(alloc, Cause::WrongKind)),
-    }
+    tree.as_array()
+        .ok_or(ReadError::here(alloc, Cause::WrongKind))
 }
 
 /// Whether there are at most so many items.

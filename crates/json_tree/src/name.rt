@@ -28,9 +28,6 @@ impl Tree for Name {
     ghost reads = { name };
 
     fn read(alloc: Global, tree: &Value) -> Result<Name, ReadError> {
-        match name_of(alloc, text(alloc, tree)?)? {
-            Some(name) => Ok(name),
-            None => Err(ReadError::here(alloc, Cause::OutOfRange)),
-        }
+        name_of(alloc, text(alloc, tree)?)?.ok_or(ReadError::here(alloc, Cause::OutOfRange))
     }
 }

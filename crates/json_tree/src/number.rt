@@ -16,13 +16,9 @@ use std::marker::Model;
 pub fn integer(alloc: Global, tree: &Value) -> Result<i128, ReadError>
     ensures { Gives result (integer (view tree.now)) }
 {
-    let Some(number) = tree.as_number() else {
-        return Err(ReadError::here(alloc, Cause::WrongKind));
-    };
-    match number.as_i128() {
-        Some(number) => Ok(number),
-        None => Err(ReadError::here(alloc, Cause::WrongKind)),
-    }
+    tree.as_number()
+        .and_then(|number| number.as_i128())
+        .ok_or(ReadError::here(alloc, Cause::WrongKind))
 }
 
 /// An integer from lo to hi.

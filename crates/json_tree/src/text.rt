@@ -15,10 +15,8 @@ use std::alloc::Global;
 pub fn text(alloc: Global, tree: &Value) -> Result<&str, ReadError>
     ensures { GivesAs (λ t. t.now) result (text (view tree.now)) }
 {
-    match tree.as_str() {
-        Some(text) => Ok(text),
-        None => Err(ReadError::here(alloc, Cause::WrongKind)),
-    }
+    tree.as_str()
+        .ok_or(ReadError::here(alloc, Cause::WrongKind))
 }
 
 /// The one text that may stand there.
@@ -60,8 +58,5 @@ fn look_up<T: Copy>(table: &[(&str, T)], text: &str) -> Option<T>
 pub fn word_of<T: Copy>(alloc: Global, tree: &Value, table: &[(&str, T)]) -> Result<T, ReadError>
     ensures { Gives result (word_of (map row table.now) (view tree.now)) }
 {
-    match look_up(table, text(alloc, tree)?) {
-        Some(meaning) => Ok(meaning),
-        None => Err(ReadError::here(alloc, Cause::UnknownWord)),
-    }
+    look_up(table, text(alloc, tree)?).ok_or(ReadError::here(alloc, Cause::UnknownWord))
 }

@@ -96,10 +96,7 @@ pub(crate) fn member<'a>(alloc: Global, tree: &'a Value, key: &str) -> Result<&'
     ensures there { IfOk result (λ value. get key.now (view tree.now) ≡ Some (view value.now)) }
     ensures missing { IfErr result (λ e. (e ≡ ReadError.Fault (here Missing)) × (get key.now (view tree.now) ≡ None)) }
 {
-    match tree.get(key) {
-        Some(value) => Ok(value),
-        None => Err(ReadError::here(alloc, Cause::Missing)),
-    }
+    tree.get(key).ok_or(ReadError::here(alloc, Cause::Missing))
 }
 
 /// The member of an object at a key, read as a profile says.
@@ -138,10 +135,8 @@ impl Tree for bool {
     ghost reads = { boolean };
 
     fn read(alloc: Global, tree: &Value) -> Result<bool, ReadError> {
-        match tree.as_bool() {
-            Some(value) => Ok(value),
-            None => Err(ReadError::here(alloc, Cause::WrongKind)),
-        }
+        tree.as_bool()
+            .ok_or(ReadError::here(alloc, Cause::WrongKind))
     }
 }
 

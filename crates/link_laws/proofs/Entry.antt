@@ -84,10 +84,10 @@ filter_get p (y ∷ ys) (suc i) x e h = at (p y) (filter_get p ys i x e h)
 
 -- ---- each key is declared
 
-abbrev IsDeclared : List Unit → Declaration → Type 0
+abbrev pub IsDeclared : List Unit → Declaration → Type 0
 IsDeclared units d = (i : ℕ) × (slice_get (declarations units) i ≡ Some d)
 
-abbrev IsKept : List Unit → Declaration → Type 0
+abbrev pub IsKept : List Unit → Declaration → Type 0
 IsKept units d = IsDeclared units d × (is_key units d.item ≡ true)
 
 each_kept : {X : Type 0} (P : X → Type 0) (q : X → Bool) (xs : List X) → EachOf P xs → EachOf (λ x. P x × (q x ≡ true)) (filter q xs)
@@ -99,7 +99,7 @@ each_kept P q (x ∷ xs) e = at (q x) refl (each_kept P q xs e.1)
     at true h r = ((e.0, h), r)
     at false h r = r
 
-keys_kept : (units : List Unit) → EachOf (IsKept units) (keys units)
+pub keys_kept : (units : List Unit) → EachOf (IsKept units) (keys units)
 unfolding keys
 keys_kept units =
     let test = λ (d : Declaration). is_key units d.item in

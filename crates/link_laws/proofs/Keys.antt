@@ -57,12 +57,12 @@ key_in units k d h = each_get (IsIn units) (keys units) (keys_each units) k d h
 
 -- ---- what the tests of units tell of an item
 
-abbrev ItemFits : Item → Type 0
+abbrev pub ItemFits : Item → Type 0
 ItemFits (OfFunction f) = function_fits f ≡ true
 ItemFits (OfVariable x) = variable_fits x ≡ true
 ItemFits (OfExternal x) = external_fits x ≡ true
 
-abbrev Fits : Declaration → Type 0
+abbrev pub Fits : Declaration → Type 0
 Fits d = ItemFits d.item
 
 unit_items : (n : ℕ) (u : Unit) → unit_fits u ≡ true → EachOf Fits (unit_declarations n u)
@@ -93,7 +93,7 @@ unfolding keys
 keys_fit units h = each_first Fits same_key [] _
     (each_filter Fits (λ d. is_key units d.item) (declarations units) (declarations_fit units h))
 
-key_fits : (units : List Unit) → list_all unit_fits units ≡ true → (k : ℕ) (d : Declaration) → slice_get (keys units) k ≡ Some d →
+pub key_fits : (units : List Unit) → list_all unit_fits units ≡ true → (k : ℕ) (d : Declaration) → slice_get (keys units) k ≡ Some d →
     Fits d
 key_fits units h k d key = each_get Fits (keys units) (keys_fit units h) k d key
 

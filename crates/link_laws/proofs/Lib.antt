@@ -1,7 +1,7 @@
 mod Ranges
-mod Items
+pub mod Items
 mod Addresses
-mod Overlaps
+pub mod Overlaps
 mod Sizes
 mod Apartness
 mod Words
@@ -14,10 +14,10 @@ mod KeyTests
 mod Passes
 mod Strays
 mod First
-mod Keys
-mod Names
+pub mod Keys
+pub mod Names
 mod Linked
-mod Entry
+pub mod Entry
 mod Whole
 mod Targets
 mod Places

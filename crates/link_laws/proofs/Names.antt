@@ -219,7 +219,7 @@ defined units u unit n e h =
 
 -- ---- the key of a name
 
-static_key : (units : List Unit) (u : ℕ) (n : List ℕ) → list_any (is_static_named u n) (declarations units) ≡ true →
+pub static_key : (units : List Unit) (u : ℕ) (n : List ℕ) → list_any (is_static_named u n) (declarations units) ≡ true →
     (j : ℕ) × (position (is_static_named u n) (keys units) ≡ Some j)
 static_key units u n h =
     key_any units (is_static_named u n) (is_static_named u n) (static_alike u n)

@@ -15,7 +15,7 @@ Good c = c.passes ≡ true
 
 -- ---- an order of claims by lo
 
-abbrev LowTo : Claim → Claim → Type 0
+abbrev pub LowTo : Claim → Claim → Type 0
 LowTo c d = c.range.lo ≤ d.range.lo
 
 -- ---- apart by order: the last full one ends before each later one begins
@@ -82,7 +82,7 @@ apart_good before (c ∷ cs) p = (rw p.0.0 refl, at (has_addresses c) (apart_goo
 apart_turned : (c d : Claim) → AreApart c d → AreApart d c
 apart_turned c d h = grind (arith, nat_tests)
 
-put_each : (P : Claim → Type 0) (c : Claim) (ds : List Claim) → P c → EachOf P ds → EachOf P (with_claim c ds)
+pub put_each : (P : Claim → Type 0) (c : Claim) (ds : List Claim) → P c → EachOf P ds → EachOf P (with_claim c ds)
 put_each P c [] h e = (h, tt)
 put_each P c (d ∷ ds) h e = at (is_not_above c d) (put_each P c ds h e.1)
   where
@@ -132,7 +132,7 @@ put_rises c (d ∷ ds) p = at (is_not_above c d) refl (put_rises c ds p.1)
     )
     at false e k = let low : d.range.lo ≤ c.range.lo = grind (arith, nat_tests) in (put_each (LowTo d) c ds low p.0, k)
 
-order_rises : (cs : List Claim) → Pairwise LowTo (in_order cs)
+pub order_rises : (cs : List Claim) → Pairwise LowTo (in_order cs)
 order_rises [] = tt
 order_rises (c ∷ cs) = put_rises c (in_order cs) (order_rises cs)
 
@@ -144,7 +144,7 @@ each_order : (P : Claim → Type 0) (cs : List Claim) → EachOf P (in_order cs)
 each_order P [] e = tt
 each_order P (c ∷ cs) e = let q = each_put P c (in_order cs) e in (q.0, each_order P cs q.1)
 
-order_apart : (cs : List Claim) → Apart cs → Apart (in_order cs)
+pub order_apart : (cs : List Claim) → Apart cs → Apart (in_order cs)
 order_apart [] p = tt
 order_apart (c ∷ cs) p = put_apart c (in_order cs) (order_each (AreApart c) cs p.0) (order_apart cs p.1)
 

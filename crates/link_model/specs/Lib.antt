@@ -1,3 +1,5 @@
+pub mod LinkErrors
+pub mod BindFaults
 pub mod Sets
 pub mod Program
 pub mod Numbers

@@ -1,5 +1,7 @@
 //! Why units do not link, and why keys have no address.
 
+ghost use Rattle.std.specs.Prelude.{◌≡◌};
+
 use asm_syntax::name::Name;
 
 /// The first test of linking that fails. The number is the unit's. Numbered from 1 in the order of the variants.
@@ -21,6 +23,25 @@ pub enum LinkError {
     TooBig(u32, Name),
 }
 
+impl LinkError {
+    ghost use Rattle.link_model.specs.LinkErrors.{number_of};
+
+    /// The number of the variant, from 1 to 7.
+    pub fn number(&self) -> u32
+        ensures { result ≡ number_of self.now }
+    {
+        match self {
+            LinkError::UnitTwice(_) => 1,
+            LinkError::DefinedTwice(_, _) => 2,
+            LinkError::Undeclared(_, _) => 3,
+            LinkError::SigDiffers(_, _) => 4,
+            LinkError::NoEntry => 5,
+            LinkError::Memory => 6,
+            LinkError::TooBig(_, _) => 7,
+        }
+    }
+}
+
 /// Why a key has no address. The first number is the key, the second how many candidates agree with its uses.
 /// Numbered from 1 in the order of the variants.
 #[derive(Clone, Copy, Debug, PartialEq, Eq, Drop)]
@@ -30,4 +51,20 @@ pub enum BindFault {
     SeveralFit(u32, u32),
     /// Want of memory.
     Memory,
+}
+
+impl BindFault {
+    ghost use Rattle.link_model.specs.BindFaults.{number_of};
+
+    /// The number of the variant, from 1 to 4.
+    pub fn number(&self) -> u32
+        ensures { result ≡ number_of self.now }
+    {
+        match self {
+            BindFault::NoSymbol(_) => 1,
+            BindFault::NoneFits(_) => 2,
+            BindFault::SeveralFit(_, _) => 3,
+            BindFault::Memory => 4,
+        }
+    }
 }

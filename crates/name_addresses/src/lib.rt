@@ -1,5 +1,7 @@
-//! The addresses of the symbols that names mean.
+//! What a checker reads of a linked program: its keys, what names mean, and the addresses of symbols.
 #![tactic(auto)]
+
+pub mod keys;
 
 ghost use Rattle.std.specs.Prelude.{◌≡◌, ℕ, List};
 

@@ -9,6 +9,7 @@ ghost use Rattle.ppc_machine.specs.Steps.{branch_file};
 
 use asm_syntax::unit::Reply;
 use effect_model::{Effect, Effects, Operand, Place};
+use effect_ops::calls::volatile;
 use effect_ops::operations::{results, stops};
 use std::marker::Model;
 
@@ -31,45 +32,6 @@ impl Model for Registers {
 
     ghost view = { λ r. record { gprs = r.gprs; bits = r.bits; lr = r.lr; ctr = r.ctr; ca = r.ca; so = r.so } };
 }
-
-/// The registers that a call may change.
-const VOLATILE: [Place; 35] = [
-    Place::Gpr(0),
-    Place::Gpr(3),
-    Place::Gpr(4),
-    Place::Gpr(5),
-    Place::Gpr(6),
-    Place::Gpr(7),
-    Place::Gpr(8),
-    Place::Gpr(9),
-    Place::Gpr(10),
-    Place::Gpr(11),
-    Place::Gpr(12),
-    Place::Ctr,
-    Place::Lr,
-    Place::Ca,
-    Place::So,
-    Place::Bit(0),
-    Place::Bit(1),
-    Place::Bit(2),
-    Place::Bit(3),
-    Place::Bit(4),
-    Place::Bit(5),
-    Place::Bit(6),
-    Place::Bit(7),
-    Place::Bit(20),
-    Place::Bit(21),
-    Place::Bit(22),
-    Place::Bit(23),
-    Place::Bit(24),
-    Place::Bit(25),
-    Place::Bit(26),
-    Place::Bit(27),
-    Place::Bit(28),
-    Place::Bit(29),
-    Place::Bit(30),
-    Place::Bit(31),
-];
 
 /// A bit of a word, bit 0 the highest.
 pub fn bit_of(w: u32, i: u8) -> u32
@@ -250,7 +212,7 @@ impl Registers {
     pub fn put_reply(&mut self, r: &Reply)
         ensures { self.new ≡ put_each (reply_word r.now) volatile self.old }
     {
-        self.put_each(r, &VOLATILE);
+        self.put_each(r, volatile());
     }
 
     /// bdnz counts down.

@@ -225,13 +225,13 @@ fn uses(alloc: Global) -> Result<Vec<(Plain, u32, u32, bool)>, Fail> {
         (small()?, 0x8065_8010, 0x1003_0010, false),
         (
             Plain::Jump(Jump::Bl(name(alloc)?)),
-            0x4800_0010,
+            0x4800_0011,
             0x1001_0018,
             true
         ),
         (
             Plain::Jump(Jump::Bl(name(alloc)?)),
-            0x4800_0014,
+            0x4800_0015,
             0x1001_0018,
             false
         ),

@@ -16,13 +16,15 @@ slot_apart p q false false h = (omega (arith, h), refl)
 slot_apart p q true false h = absurd (omega (arith, h))
 slot_apart p q false true h = absurd (omega (arith, h))
 
-pub known_extends : (x : Index) (known : List (Option ℕ)) (old new : List (Vec ℕ Global)) → Extends old new → AreKnown x known old → AreKnown x known new
+pub known_extends : (x : Index) (known : List (Option ℕ)) (old new : List (Vec ℕ Global)) → Extends old new → AreKnown x known old
+    → AreKnown x known new
 known_extends x known old new more h place static j lt is = more j _ (h place static j lt is)
 
 -- one more number is known
 pub known_more : (x : Index) (known : List (Option ℕ)) (sets : List (Vec ℕ Global)) (first : ℕ) (kind : Bool) (name : List ℕ) (number : ℕ)
     → slot first kind < length known → (slice_index_or (in_order x) first no_symbol).name ≡ name
-    → IsSetAt sets number (set_of (served name kind x.symbols)) → AreKnown x known sets → AreKnown x (set known (slot first kind) (Some number)) sets
+    → IsSetAt sets number (set_of (served name kind x.symbols)) → AreKnown x known sets
+    → AreKnown x (set known (slot first kind) (Some number)) sets
 known_more x known sets first kind name number inside named is old place static j lt at =
     elim (cases_eq (slot place static) (slot first kind)) [
       | inl e ↦
@@ -30,14 +32,17 @@ known_more x known sets first kind name number inside named is old place static 
           let value : Some number ≡ Some j = sym (ap (λ s. get_or (set known (slot first kind) (Some number)) s None) e
           ∙ get_or-set_same known (slot first kind) (Some number) None inside) ∙ at in
           let number_is : number ≡ j = cc in
-          let P : ℕ → Bool → ℕ → Type 0 = λ p s m. IsSetAt sets m (set_of (served (slice_index_or (in_order x) p no_symbol).name s x.symbols)) in
+          let P : ℕ → Bool → ℕ → Type 0 = λ p s m. IsSetAt sets m (set_of
+          (served (slice_index_or (in_order x) p no_symbol).name s x.symbols)) in
           let here : P first kind number = rw named is in
-          subst (λ m. P place static m) number_is (subst (λ s. P place s number) (sym same.1) (subst (λ p. P p kind number) (sym same.0) here))
+          subst (λ m. P place static m) number_is
+          (subst (λ s. P place s number) (sym same.1) (subst (λ p. P p kind number) (sym same.0) here))
       | inr ne ↦ old place static j lt (sym (get_or-set_other known (slot first kind) (slot place static) (Some number) None ne) ∙ at)
     ]
 
 -- the number that is known for a name at its first place
-pub known_here : (x : Index) (known : List (Option ℕ)) (sets : List (Vec ℕ Global)) (first : ℕ) (kind : Bool) (name : List ℕ) (number place : ℕ)
+pub known_here : (x : Index) (known : List (Option ℕ)) (sets : List (Vec ℕ Global)) (first : ℕ) (kind : Bool) (name : List ℕ)
+    (number place : ℕ)
     → place ≡ slot first kind → first < length x.places → (slice_index_or (in_order x) first no_symbol).name ≡ name
     → AreKnown x known sets → slice_index_or known place None ≡ Some number → IsSetAt sets number (set_of (served name kind x.symbols))
 known_here x known sets first kind name number place is lt named old at =
@@ -48,13 +53,15 @@ pub set_is : (sets : List (Vec ℕ Global)) (j : ℕ) (one other : List ℕ) →
 set_is sets j one other is at = at ∙ ap (λ set. Some set) is
 
 -- one more key has the number of its candidates
-pub offers_more : (symbols : List Symbol) (ks : List Declaration) (k : ℕ) (old new : List (Vec ℕ Global)) (numbers : List ℕ) (number : ℕ) (d : Declaration)
+pub offers_more : (symbols : List Symbol) (ks : List Declaration) (k : ℕ) (old new : List (Vec ℕ Global)) (numbers : List ℕ) (number : ℕ)
+    (d : Declaration)
     → Extends old new → length numbers ≡ k → slice_get ks k ≡ Some d → IsSetAt new number (offered symbols d)
     → AreOffers symbols ks k old numbers → AreOffers symbols ks (k + 1) new (numbers ++ number ∷ [])
 offers_more symbols ks k old new numbers number d more count is here offers i e lt at =
     elim (cases_lt i k) [
       | inl less ↦
-          let same : get_or (numbers ++ number ∷ []) i 0 ≡ get_or numbers i 0 = get_or_append_left numbers (number ∷ []) 0 i (omega (arith, count, less)) in
+          let same : get_or (numbers ++ number ∷ []) i 0 ≡ get_or numbers i 0 =
+          get_or_append_left numbers (number ∷ []) 0 i (omega (arith, count, less)) in
           subst (λ j. IsSetAt new j (offered symbols e)) (sym same) (more (get_or numbers i 0) (offered symbols e) (offers i e less at))
       | inr ge ↦
           let last : i ≡ k = omega (arith, lt, ge) in

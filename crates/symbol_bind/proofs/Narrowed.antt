@@ -28,7 +28,8 @@ gap_wraps l at w (Near t) = ap (λ a. a == t % 2 ^ 32) (omega arith)
 gap_wraps l at w (Far t) = ap (λ a. a == t % 2 ^ 32) (omega arith)
 gap_wraps l at w Free = refl
 
-pub place_wraps : (l : Layout) (t at w : ℕ) (plain : Plain) → refers_to l t at (FromInstr plain) w ≡ refers_to l t (at % 2 ^ 32) (FromInstr plain) w
+pub place_wraps : (l : Layout) (t at w : ℕ) (plain : Plain)
+    → refers_to l t at (FromInstr plain) w ≡ refers_to l t (at % 2 ^ 32) (FromInstr plain) w
 place_wraps l t at w plain = gap_wraps l at w (plain_form t plain).gap
 
 abbrev is_use_of : ℕ → Use → Bool
@@ -74,8 +75,10 @@ pub fitting_is_open : (l : Layout) (uses : List Use) (k : ℕ) (c : AddressSet) 
 fitting_is_open l uses k c [] e h = refl
 fitting_is_open l uses k c (t ∷ ts) e h =
     elim (cases_Bool (list_all (agrees l t) (uses_of k uses))) [
-      | inl y ↦ (let q : contains c t ≡ true = h t (e 0 t (omega arith)) ∙ y in rw (q, y) (ap (λ (xs : List ℕ). t ∷ xs) (fitting_is_open l uses k c ts (λ i d lt. e (suc i) d (omega arith)) h)))
-      | inr n ↦ (let q : contains c t ≡ false = h t (e 0 t (omega arith)) ∙ n in rw (q, n) (fitting_is_open l uses k c ts (λ i d lt. e (suc i) d (omega arith)) h))
+      | inl y ↦ (let q : contains c t ≡ true = h t (e 0 t (omega arith)) ∙ y in
+          rw (q, y) (ap (λ (xs : List ℕ). t ∷ xs) (fitting_is_open l uses k c ts (λ i d lt. e (suc i) d (omega arith)) h)))
+      | inr n ↦ (let q : contains c t ≡ false = h t (e 0 t (omega arith)) ∙ n in
+          rw (q, n) (fitting_is_open l uses k c ts (λ i d lt. e (suc i) d (omega arith)) h))
     ]
 
 other_key : (j k : ℕ) → (j ≡ k → ⊥) → (j == k) ≡ false
@@ -100,7 +103,8 @@ open_more l us u cs k o c is lt narrow old j d low t fits = elim (cases_eq j k) 
 ]
 
 -- a use of no key that has a set
-pub open_kept : (l : Layout) (us : List Use) (u : Use) (cs : List AddressSet) → ((k : ℕ) → u.key ≡ Some k → k < length cs → ⊥) → AreOpen l us cs → AreOpen l (us ++ u ∷ []) cs
+pub open_kept : (l : Layout) (us : List Use) (u : Use) (cs : List AddressSet) → ((k : ℕ) → u.key ≡ Some k → k < length cs → ⊥)
+    → AreOpen l us cs → AreOpen l (us ++ u ∷ []) cs
 open_kept l us u cs none old j d low t fits = old j d low t fits ∙ sym (use_other l j t us u (at u.key refl))
   where
     at : (o : Option ℕ) → u.key ≡ o → option_map_or (λ i. i == j) o false ≡ false

@@ -82,7 +82,8 @@ heads_same x y xs ys a b in_y in_x =
 mem_head : (x : ℕ) (xs : List ℕ) → mem x (x ∷ xs) ≡ true
 mem_head x xs = grind (arith, nat_tests)
 
-tails_same : (x : ℕ) (xs ys : List ℕ) → IsBelow x xs → IsBelow x ys → ((v : ℕ) → mem v (x ∷ xs) ≡ mem v (x ∷ ys)) → (v : ℕ) → mem v xs ≡ mem v ys
+tails_same : (x : ℕ) (xs ys : List ℕ) → IsBelow x xs → IsBelow x ys → ((v : ℕ) → mem v (x ∷ xs) ≡ mem v (x ∷ ys)) → (v : ℕ)
+    → mem v xs ≡ mem v ys
 tails_same x xs ys a b same v =
     let here = same v in let no_a = not_mem_above x xs a in let no_b = not_mem_above x ys b in
     elim (cases_lt x v) [

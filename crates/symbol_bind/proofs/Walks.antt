@@ -43,7 +43,8 @@ data_push g u a [] x = let e : a + 0 ≡ a = omega arith in rw e (append-nil _)
 data_push g u a (y ∷ ys) x =
     let e : a + variable_size (y ∷ ys) ≡ a + init_size y + variable_size ys = omega (arith, sum_by-cons init_size y ys) in
     ap (λ us. init_uses g u a y ++ us) (data_push g u (a + init_size y) ys x)
-    ∙ (sym (append_assoc (init_uses g u a y) (data_uses g u (a + init_size y) ys) _) ∙ ap (λ p. data_uses g u a (y ∷ ys) ++ init_uses g u p x) (sym e))
+    ∙ (sym (append_assoc (init_uses g u a y) (data_uses g u (a + init_size y) ys) _)
+    ∙ ap (λ p. data_uses g u a (y ∷ ys) ++ init_uses g u p x) (sym e))
 
 pub data_more : (g : Inputs) (u a : ℕ) (xs : List Init) (i : ℕ) (x : Init) (p : ℕ) → i < length xs → x ≡ get_or xs i x
     → p ≡ a + variable_size (take i xs) → data_uses g u a (take (i + 1) xs) ≡ data_uses g u a (take i xs) ++ init_uses g u p x

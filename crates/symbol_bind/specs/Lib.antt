@@ -1,5 +1,4 @@
 pub mod AddressSets
 pub mod Open
-pub mod Keys
-pub mod Given
 pub mod Offers
+pub mod Bound

@@ -1,6 +1,7 @@
 -- What symbols offer for a name.
-use Rattle.std.specs.Prelude.{◌≡◌, ℕ, ◌+◌, ◌*◌, ◌<◌, Bool, List, length, map, filter, Option, Some, None, option_map, slice_get, slice_index, slice_index_or, if◌then◌else◌, Vec}
+use Rattle.std.specs.Prelude.{◌≡◌, ℕ, ◌+◌, ◌*◌, ◌<◌, Bool, List, [], length, map, filter, Option, Some, None, option_map, slice_get, slice_index, slice_index_or, if◌then◌else◌, Vec}
 use Rattle.std.specs.Global.{Global}
+use Rattle.std.specs.Option.{option_map_or}
 use Rattle.image_model.specs.Image.{Symbol}
 use Rattle.link_model.specs.Sets.{set_of}
 use Rattle.link_model.specs.Program.{Declaration, name_of, is_static}
@@ -14,6 +15,10 @@ served name static symbols = map (λ (s : Symbol). s.value) (filter (is_candidat
 -- the candidates of a key
 abbrev pub offered : List Symbol → Declaration → List ℕ
 offered symbols d = set_of (served (name_of d) (is_static d) symbols)
+
+-- those of each key
+abbrev pub all_offered : List Symbol → List Declaration → List (List ℕ)
+all_offered symbols ks = map (offered symbols) ks
 
 -- ---- sets that are kept once for all keys of a name
 
@@ -39,3 +44,7 @@ AreKnown x known sets =
 abbrev pub AreOffers : List Symbol → List Declaration → ℕ → List (Vec ℕ Global) → List ℕ → Type 0
 AreOffers symbols ks n sets numbers =
     (k : ℕ) (d : Declaration) → k < n → slice_get ks k ≡ Some d → IsSetAt sets (slice_index numbers k) (offered symbols d)
+
+-- the set with a number
+abbrev pub set_at : List (Vec ℕ Global) → ℕ → List ℕ
+set_at sets j = option_map_or (λ (v : Vec ℕ Global). v.items) (slice_get sets j) []

@@ -2,8 +2,10 @@
 #![tactic(auto)]
 
 pub mod address_set;
+pub mod bind;
 pub mod candidates;
-pub mod keys;
+mod known;
+mod left;
 pub mod narrow;
 pub mod offers;
 #[cfg(test)]

@@ -189,7 +189,8 @@ impl AddressSet {
 
     /// Those with which a word of data agrees.
     pub fn by_data(&self, offset: i32, word: u32) -> AddressSet
-        ensures { (l : Layout) (t at : ℕ) → t < 2 ^ 32 → contains result t ≡ (contains self.now t && refers_to l t at (FromData offset) word) }
+        ensures { (l : Layout) (t at : ℕ) → t < 2 ^ 32
+            → contains result t ≡ (contains self.now t && refers_to l t at (FromData offset) word) }
     {
         self.with_window(before(word, offset), 1)
     }

@@ -1,22 +1,46 @@
 //! The candidates of all keys, once for all keys of a name.
 
-ghost use Rattle.std.specs.Prelude.{◌≡◌, ◌≤◌, ◌<◌, ◌+◌, ◌*◌, ◌-◌, ◌^◌, ℕ, length, IfOk, Some, None, slice_index_or, if◌then◌else◌};
+ghost use Rattle.std.specs.Prelude.{◌≡◌, ◌≤◌, ◌<◌, ◌+◌, ◌*◌, ◌-◌, ◌^◌, ℕ, All, length, slice_get, IfOk, Some, None, slice_index_or, if◌then◌else◌};
 ghost use Rattle.image_model.specs.declared.symbol.TheConstants.{NAME_START_BYTES};
 ghost use Rattle.link_model.specs.Program.{keys, name_of, is_static};
 ghost use Rattle.link_model.specs.Sets.{set_of};
-ghost use Rattle.symbol_bind.specs.Keys.{declared};
-ghost use Rattle.symbol_bind.specs.Offers.{served, slot, IsSetAt, Extends, AreKnown, AreOffers};
+ghost use Rattle.name_addresses.specs.Keys.{declared};
+ghost use Rattle.symbol_bind.specs.Offers.{served, slot, all_offered, IsSetAt, Extends, AreKnown};
 
 use crate::candidates::candidates;
-use crate::keys::KeyedProgram;
+use name_addresses::keys::KeyedProgram;
 use std::alloc::{AllocError, Global};
+use std::marker::Model;
 use symbol_index::index::SymIndex;
 
-/// Sets of candidates, and for each key the number of its set.
+/// The candidates of each key. Keys that have the same ones share a set.
 #[derive(Drop)]
 pub struct Offers {
-    pub sets: Vec<Vec<u32>>,
-    pub numbers: Vec<u32>,
+    sets: Vec<Vec<u32>>,
+    /// For each key the number of its set.
+    numbers: Vec<u32>,
+}
+
+impl Model for Offers {
+    ghost use Rattle.std.specs.Prelude.{ℕ, ◌<◌, All, List, length, map};
+    ghost use Rattle.symbol_bind.specs.Offers.{set_at};
+
+    ghost Value = { List (List ℕ) };
+
+    ghost view = { λ offers. map (set_at offers.sets.items) offers.numbers.items };
+
+    ghost invariant = { λ offers. All (λ j. j < length offers.sets.items) offers.numbers.items };
+}
+
+impl Offers {
+    /// The candidates of a key, in ascending order.
+    pub fn set(&self, key: u32) -> &[u32]
+        requires { key < length self.now }
+        ensures { slice_get self.now key ≡ Some result.now }
+    {
+        let number = self.numbers[key as usize];
+        &self.sets[number as usize]
+    }
 }
 
 /// One more set, and its number.
@@ -85,9 +109,8 @@ pub fn gather_offers<P: KeyedProgram>(
     index: &SymIndex,
     program: &P,
 ) -> Result<Offers, AllocError>
-    ensures count { IfOk result (λ o. length o.numbers.items ≡ length (keys (P.program program.now).units)) }
-    ensures offers { IfOk result (λ o. AreOffers index.now.symbols (keys (P.program program.now).units)
-        (length (keys (P.program program.now).units)) o.sets.items o.numbers.items) }
+    ensures offers { IfOk result (λ o. o ≡ all_offered index.now.symbols (keys (P.program program.now).units)) }
+    ensures few { IfOk result (λ o. All (λ set. length set < 2 ^ 32) o) }
 {
     let mut known = no_numbers(alloc, 2 * index.places() as usize)?;
     let mut sets = Vec::new(alloc);

@@ -47,7 +47,8 @@ by_name symbols xs up k d a b = not_less_first _ _ (up k d a b)
 -- ranks rise along the places
 pub ranks_rise : (x : Index) (name : List ℕ) → IsIndex x.symbols x.places
     → (i j : ℕ) → i ≤ j → j < length x.places → rank x name i ≤ rank x name j
-ranks_rise x name h i j = searchable_from_sorted nat_list_cmp_total (name_start_at x.symbols) x.places name (by_name x.symbols x.places h.ordered) i j 0
+ranks_rise x name h i j = searchable_from_sorted nat_list_cmp_total (name_start_at x.symbols) x.places name
+    (by_name x.symbols x.places h.ordered) i j 0
 
 eq_by_index : (o : Ordering) → ordering_index o ≡ 1 → is_eq o ≡ true
 eq_by_index Less h = absurd (omega (arith, h))
@@ -140,7 +141,8 @@ narrow_equal r n low high hit m rise h a b at = record {
   missed = λ no. cc;
 }
 
-pub narrow_greater : (r : ℕ → ℕ) (n low high : ℕ) (hit : Bool) (m : ℕ) → Rises r n → ((k : ℕ) → r k ≤ 2) → Narrowed r n low high hit → low ≤ m → m < high → r m ≡ 2
+pub narrow_greater : (r : ℕ → ℕ) (n low high : ℕ) (hit : Bool) (m : ℕ) → Rises r n → ((k : ℕ) → r k ≤ 2) → Narrowed r n low high hit
+    → low ≤ m → m < high → r m ≡ 2
     → Narrowed r n low m false
 narrow_greater r n low high hit m rise most h a b at = record {
   ordered = a;
@@ -190,12 +192,16 @@ found_there x name low high hit short h stop yes_hit =
     rw (is, lt-ltb _ _ within) refl
 
 pub found_nowhere : (x : Index) (name : List ℕ) (low high : ℕ) (hit : Bool) → length name < NAME_START_BYTES
-    → Narrowed (rank x name) (length x.places) low high hit → high ≤ low → hit ≡ false → (let none : Option ℕ = None in none ≡ first_place x name)
+    → Narrowed (rank x name) (length x.places) low high hit → high ≤ low → hit ≡ false
+    → (let none : Option ℕ = None in none ≡ first_place x name)
 found_nowhere x name low high hit short h stop no_hit =
     let p = is_named x name in
     let is : position_or_len p x.places ≡ length x.places =
     position_or_len_is p x.places (length x.places) 0 (omega arith)
-    (λ k lt. not_named_at x name k short (λ one. elim (cases_lt k low) [ inl less ↦ omega (arith, h.below k less) | inr more ↦ omega (arith, h.missed no_hit k (omega arith) lt) ]))
+    (λ k lt. not_named_at x name k short (λ one. elim (cases_lt k low) [
+      | inl less ↦ omega (arith, h.below k less)
+      | inr more ↦ omega (arith, h.missed no_hit k (omega arith) lt)
+    ]))
     (λ absurdly. absurd (omega arith)) in
     let same : length x.places ≤ length x.places = omega arith in rw (is, le-ltb _ _ same) refl
 
@@ -216,7 +222,8 @@ in_order_moves x h =
 pub places_below : (symbols : List Symbol) (places : List ℕ) → IsIndex symbols places → All (λ i. i < length symbols) places
 places_below symbols places h =
     All-permutation (λ i. i < length symbols) _ _ h.each
-    (All-from_get_or (λ i. i < length symbols) _ 0 (λ i lt. let e = length-range_with_len 0 (length symbols) in let lt' : i < length symbols = omega arith in
+    (All-from_get_or (λ i. i < length symbols) _ 0 (λ i lt. let e = length-range_with_len 0 (length symbols) in
+    let lt' : i < length symbols = omega arith in
     rw (get_or-range_with_len 0 (length symbols) i 0 lt') (omega arith)))
 
 -- where no place has the name, no symbol has it
@@ -249,7 +256,8 @@ seen_at f x place i r lt is at =
       | inr (past, has) ↦ let e = ap (option_map f) has in cc
     ]
 
-pub place_inside : (x : Index) (place i : ℕ) → IsIndex x.symbols x.places → place < length x.places → i ≡ get_or x.places place i → i < length x.symbols
+pub place_inside : (x : Index) (place i : ℕ) → IsIndex x.symbols x.places → place < length x.places → i ≡ get_or x.places place i
+    → i < length x.symbols
 place_inside x place i h lt is =
     rw is (All-get_or (λ j. j < length x.symbols) x.places place i lt (places_below x.symbols x.places h))
 

@@ -22,7 +22,8 @@ returns-then-not-has_name c =
     read_there (has_name c.args.name.now) (in_order x) c.loop-place.place _ c.has_name.ensures ∙ other in
     let inside : c.loop-place.place < length x.places = search rules in
     c.loop-place.invariant.values
-    ∙ sym (rest_unserved x c.args.name.now c.args.is_static c.args.first c.loop-place.place c.requires.short c.places-count.ensures.index c.requires.first
+    ∙ sym (rest_unserved x c.args.name.now c.args.is_static c.args.first c.loop-place.place c.requires.short c.places-count.ensures.index
+    c.requires.first
     (search rules) inside differs)
 
 pub loop-place-preserved : goal.loop-place-preserved
@@ -31,7 +32,8 @@ loop-place-preserved c =
     let same : c.has_name.result ≡ true = search rules in
     let inside : c.loop-place.place < length x.places = search rules in
     let within = place_within x c.loop-place.place inside in
-    let next = served_next c.args.name.now c.args.is_static (in_order x) c.loop-place.place c.fields-fields.result c.is_offered.result within
+    let next = served_next c.args.name.now c.args.is_static (in_order x) c.loop-place.place c.fields-fields.result c.is_offered.result
+    within
     (c.has_name.ensures ∙ ap (λ b. Some b) same) c.fields-fields.ensures c.is_offered.ensures in
     elim c.if-is_offered.branch [
       | then-is_offered+in_ok-push w ↦ record {

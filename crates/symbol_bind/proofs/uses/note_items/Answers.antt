@@ -1,7 +1,7 @@
 use Rattle.std.proofs.Common.{◌∙◌, ◌++◌, take, arith}
 use Rattle.link_model.specs.Candidates.{Inputs}
 use Rattle.link_model.specs.Uses.{data_uses}
-use Rattle.symbol_bind.specs.Given.{given}
+use Rattle.name_addresses.specs.Given.{given}
 use Rattle.symbol_bind.proofs.Walks.{data_more, size_more, noted_more}
 use Rattle.symbol_bind.proofs.uses.note_items.Goals as goal
 
@@ -15,5 +15,6 @@ loop-item-preserved g c =
       noted = λ us old.
           noted_more c.args.layout.now us _ _ _ _
           (data_more inputs c.args.unit c.args.at c.args.init.now c.loop-item.item-index _ _ (omega arith) c.item-item.is now.place)
-          (c.note_item.ensures.open (us ++ data_uses inputs c.args.unit c.args.at (take c.loop-item.item-index c.args.init.now)) (now.noted us old));
+          (c.note_item.ensures.open (us ++ data_uses inputs c.args.unit c.args.at (take c.loop-item.item-index c.args.init.now))
+          (now.noted us old));
     }

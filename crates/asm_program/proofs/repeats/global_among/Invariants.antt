@@ -1,0 +1,11 @@
+use Rattle.std.proofs.Common.{◌≡◌, ◌++◌, map, drop}
+use Rattle.std.specs.Prelude.{filter}
+use Rattle.link_model.specs.Program.{is_global_definition}
+use Rattle.asm_program.specs.Seen.{declaration_seen}
+use Rattle.asm_program.proofs.repeats.global_among.Given as goal
+
+abbrev pub invariant-loop-d : goal.invariant-loop-d
+invariant-loop-d l = record {
+  list : map declaration_seen l.list.items ++ filter is_global_definition (map declaration_seen (drop l.d-index l.all))
+      ≡ filter is_global_definition (map declaration_seen l.all);
+}

@@ -1,0 +1,13 @@
+use Rattle.std.proofs.Common.{◌∙◌, ◌++◌, ap, map}
+use Rattle.std.specs.List.{list_any}
+use Rattle.std.specs.Str.{bytes_eq}
+use Rattle.asm_shapes.specs.Units.{external_name}
+use Rattle.asm_program.proofs.NameSets.{declared_is}
+use Rattle.asm_program.proofs.uses.declared_names.Goals as goal
+
+pub returns : goal.returns
+returns c = λ v.
+    let unit = c.args.unit.now in
+    c.in_ok-set.ensures v
+    ∙ (ap (list_any (bytes_eq v)) (c.in_ok-add_declarations.ensures ∙ ap (λ l. l ++ map external_name unit.externals) c.new-list.ensures)
+    ∙ declared_is v unit)

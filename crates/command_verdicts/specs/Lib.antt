@@ -1,0 +1,5 @@
+pub mod Contents
+pub mod Stores
+pub mod Stops
+pub mod Conclusions
+pub mod Decided

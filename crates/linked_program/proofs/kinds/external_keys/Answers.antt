@@ -1,0 +1,58 @@
+use Rattle.std.proofs.Common.{◌≡◌, ◌∙◌, ◌<◌, ◌≤◌, ◌++◌, ◌∷◌, [], length, get_or, map, cond, ap, sym, arith, Vec, Global}
+use Rattle.std.specs.List.{flat_map}
+use Rattle.std.proofs.lemmas.List.{map-append}
+use Rattle.link_model.specs.Program.{Declaration}
+use Rattle.link_model.specs.Program.{is_external}
+use Rattle.link_model.specs.Numbers.{item_externals}
+use Rattle.asm_program.specs.declared.declared.Item.{Item}
+use Rattle.asm_program.specs.Seen.{item_seen, declaration_seen}
+use Rattle.asm_program.proofs.SeenLists.{seen_at, seen_length}
+use Rattle.linked_program.specs.declared.kinds.ExternalKey.{ExternalKey}
+use Rattle.linked_program.specs.Kinds.{external_of, external_key, key_numbers}
+use Rattle.linked_program.proofs.LoopSteps.{items_step, numbers_step, items_end, numbers_end, no_external, nothing_added}
+use Rattle.linked_program.proofs.kinds.external_keys.Goals as goal
+use Rattle.linked_program.proofs.kinds.external_keys.Goals.{in-External+in_ok-push, in_default}
+
+pub returns : goal.returns
+returns c =
+    let ds = map declaration_seen c.args.keys.now in let list = c.loop-k.list.items in
+    let le : length ds ≤ c.loop-k.k = omega (arith, seen_length c.args.keys.now) in
+    record {
+      items = items_end (λ (d : Declaration). item_externals d.item) (map external_of list) ds c.loop-k.k (flat_map (λ (d : Declaration). item_externals d.item) ds) le c.loop-k.invariant.items;
+      numbers = numbers_end (λ (d : Declaration). is_external d.item) (map external_key list) ds c.loop-k.k (key_numbers is_external ds) le c.loop-k.invariant.numbers;
+    }
+
+pub loop-k-preserved : goal.loop-k-preserved
+loop-k-preserved c =
+    let all = c.args.keys.now in let ds = map declaration_seen all in let k = c.loop-k.k in let d = declaration_seen c.index-keys-k.result in
+    let list = c.loop-k.list.items in
+    let short : k < length all = omega arith in
+    let lt : k < length ds = omega (arith, seen_length all) in
+    let at : get_or ds k d ≡ d = seen_at all k c.index-keys-k.result short c.index-keys-k.is in
+    elim c.match-d.branch [
+      | in-External+in_ok-push w ↦
+          let row : ExternalKey = record { key = k; external = w.in-External.external } in
+          let grown : c.match-d.list.items ≡ list ++ row ∷ [] = ap (λ (l : Vec ExternalKey Global). l.items) w.list-is ∙ w.in_ok-push.ensures.items in
+          record {
+            items = items_step item_externals is_external ds k d lt at (map external_of list) (map external_of c.match-d.list.items)
+                (ap (map external_of) grown ∙ (map-append external_of list (row ∷ [])
+                ∙ sym (ap (λ (item : Item). map external_of list ++ item_externals (item_seen item)) w.in-External.is)))
+                ∙ c.loop-k.invariant.items;
+            numbers = numbers_step item_externals is_external ds k d lt at (map external_key list) (map external_key c.match-d.list.items)
+                (ap (map external_key) grown ∙ (map-append external_key list (row ∷ [])
+                ∙ sym (ap (λ (item : Item). map external_key list ++ cond (is_external (item_seen item)) (k ∷ []) []) w.in-External.is)))
+                ∙ c.loop-k.invariant.numbers;
+          }
+      | in_default w ↦
+          let same : c.match-d.list.items ≡ list = ap (λ (l : Vec ExternalKey Global). l.items) w.list-is in
+          let gone = no_external c.index-keys-k.result.item w.in_default.not-External in
+          record {
+            items = items_step item_externals is_external ds k d lt at (map external_of list) (map external_of c.match-d.list.items)
+                (nothing_added (map external_of list) (item_externals d.item) (map external_of c.match-d.list.items) gone.0 (ap (map external_of) same))
+                ∙ c.loop-k.invariant.items;
+            numbers = numbers_step item_externals is_external ds k d lt at (map external_key list) (map external_key c.match-d.list.items)
+                (nothing_added (map external_key list) (cond (is_external d.item) (k ∷ []) []) (map external_key c.match-d.list.items)
+                (ap (λ b. cond b (k ∷ []) []) gone.1) (ap (map external_key) same))
+                ∙ c.loop-k.invariant.numbers;
+          }
+    ]

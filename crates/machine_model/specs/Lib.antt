@@ -1,0 +1,2 @@
+pub mod AsmRuns
+pub mod FlatRuns

@@ -1,0 +1,3 @@
+pub mod UnitNumbers
+pub mod UnitReads
+pub mod Refusals

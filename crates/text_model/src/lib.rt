@@ -1,0 +1,2 @@
+//! Lines of printed text, as definitions.
+#![tactic(auto)]
