@@ -6,7 +6,8 @@ to standard output.
 
 Loaded addresses stand to scale from the top down, and each gap between them is folded into a break that tells its size. What
 an address belongs to is told by colour, by a label where there is room, and by the title that a browser shows under the pointer.
-Items that are less than a pixel high are drawn together with their neighbours. Ends with 1 where the input is no such report."""
+Items that are less than a pixel high are drawn together with their neighbours, and addresses between two gaps are at least
+some pixels high. Ends with 1 where the input is no such report."""
 import argparse
 import sys
 from xml.sax.saxutils import escape
@@ -22,6 +23,7 @@ BAR_WIDTH = 150
 LABEL_GAP = 34  # from the bar to the labels
 LINE = 13  # between two labels
 BREAK = 30  # the height of a folded gap
+LEAST_BLOCK = 4  # pixels
 TEXT_STYLE = 'font-family="DejaVu Sans Mono, Menlo, Consolas, monospace" font-size="11"'
 
 
@@ -156,9 +158,9 @@ class Picture:
         return y
 
     def block(self, block, y):
-        start = y
+        start, scale = y, max(self.scale, LEAST_BLOCK / (block[-1].end - block[0].first))
         for span in block:
-            tall = span.size() * self.scale
+            tall = span.size() * scale
             border = ' stroke="white" stroke-width="0.6"' if tall > 2 else ""
             shape = f'<rect x="{self.bar}" y="{y:.2f}" width="{BAR_WIDTH}" height="{tall:.2f}" fill="{COLOURS[span.kind]}"{border}/>'
             self.parts.append(titled(shape, span.title()))

@@ -1,5 +1,6 @@
 -- Items that are written into a new block, one behind another.
-use Rattle.std.proofs.Common.{◌≡◌, ℕ, suc, ◌+◌, ◌%◌, ◌<◌, ◌≤◌, ℤ, Bool, true, false, List, [], ◌∷◌, ◌++◌, length, drop, get_or, replicate, refl, ap, sym, ◌∙◌, arith}
+use Rattle.std.proofs.Common.{◌≡◌, ℕ, suc, ◌+◌, ◌%◌, ◌<◌, ◌≤◌, ℤ, Bool, true, false, List, [], ◌∷◌, ◌++◌, length, drop, get_or, replicate}
+use Rattle.std.proofs.Common.{refl, ap, sym, ◌∙◌, arith}
 use Rattle.std.specs.Prelude.{◌==◌, if◌then◌else◌, slice_set}
 use Rattle.std.proofs.lemmas.Bool.{eq-eqb}
 use Rattle.std.proofs.lemmas.List.{append_assoc, drop_all, drop_more, length-append, length-map, length-replicate, length_push, set_at}
@@ -61,23 +62,29 @@ update_agree : (b : ℕ) (f g : Live → Live) (live : List Live) → ((k : Live
 update_agree b f g [] h = refl
 update_agree b f g (k ∷ ks) h = at (has b k) (update_agree b f g ks h)
   where
-    at : (t : Bool) → update b f ks ≡ update b g ks → (if t then f k ∷ ks else k ∷ update b f ks) ≡ (if t then g k ∷ ks else k ∷ update b g ks)
+    at : (t : Bool) → update b f ks ≡ update b g ks
+        → (if t then f k ∷ ks else k ∷ update b f ks) ≡ (if t then g k ∷ ks else k ∷ update b g ks)
     at true r = ap (λ j. j ∷ ks) (h k)
     at false r = ap (λ l. k ∷ l) r
 
 -- one item more
-pub items_step : (f : List ℕ → ℤ → Val) (live : List Live) (b o n i : ℕ) (xs : List Init) (x : Init) → i < length xs → x ≡ get_or xs i x → n ≡ init_size x
+pub items_step : (f : List ℕ → ℤ → Val) (live : List Live) (b o n i : ℕ) (xs : List Init) (x : Init) → i < length xs → x ≡ get_or xs i x
+    → n ≡ init_size x
     → update b (λ k. set_cells k (o + n) (cells_from f (o + n) (drop (i + 1) xs))) (update b (λ k. set_cells k o (init_cells f o x)) live)
     ≡ update b (λ k. set_cells k o (cells_from f o (drop i xs))) live
 items_step f live b o n i xs x lt is size =
     let rest = cells_from f (o + n) (drop (i + 1) xs) in
-    update_then b (λ k. set_cells k o (init_cells f o x)) (λ k. set_cells k (o + n) rest) live (λ k. set_cells_number k o (init_cells f o x))
-    ∙ update_agree b (λ k. set_cells (set_cells k o (init_cells f o x)) (o + n) rest) (λ k. set_cells k o (cells_from f o (drop i xs))) live joined
+    update_then b (λ k. set_cells k o (init_cells f o x)) (λ k. set_cells k (o + n) rest) live
+    (λ k. set_cells_number k o (init_cells f o x))
+    ∙ update_agree b (λ k. set_cells (set_cells k o (init_cells f o x)) (o + n) rest)
+    (λ k. set_cells k o (cells_from f o (drop i xs))) live joined
   where
-    joined : (k : Live) → set_cells (set_cells k o (init_cells f o x)) (o + n) (cells_from f (o + n) (drop (i + 1) xs)) ≡ set_cells k o (cells_from f o (drop i xs))
+    joined : (k : Live) → set_cells (set_cells k o (init_cells f o x)) (o + n) (cells_from f (o + n) (drop (i + 1) xs))
+        ≡ set_cells k o (cells_from f o (drop i xs))
     joined k =
         let e : n ≡ length (init_cells f o x) = size ∙ sym (init_length f o x) in
-        let front : cells_from f o (drop i xs) ≡ init_cells f o x ++ cells_from f (o + n) (drop (i + 1) xs) = rw (drop_more xs i x lt, ← is, size) refl in
+        let front : cells_from f o (drop i xs) ≡ init_cells f o x ++ cells_from f (o + n) (drop (i + 1) xs) =
+        rw (drop_more xs i x lt, ← is, size) refl in
         ap (λ (m : ℕ). set_cells (set_cells k o (init_cells f o x)) (o + m) (cells_from f (o + n) (drop (i + 1) xs))) e
         ∙ sym (ap (λ cs. set_cells k o cs) front ∙ set_append k o (init_cells f o x) (cells_from f (o + n) (drop (i + 1) xs)))
 
@@ -104,7 +111,8 @@ over number writable front (x ∷ old) [] o at h = absurd (omega arith)
 over number writable front (x ∷ old) (c ∷ cs) o at h =
     let made : List Cell → Live = λ l. record { number = number; writable = writable; cells = l } in
     let next : length (front ++ c ∷ []) ≡ o + 1 = length_push front c ∙ ap (λ (n : ℕ). n + 1) at in
-    let split : slice_set (front ++ x ∷ old) o c ≡ (front ++ c ∷ []) ++ old = set_at front x old c o at ∙ sym (append_assoc front (c ∷ []) old) in
+    let split : slice_set (front ++ x ∷ old) o c ≡ (front ++ c ∷ []) ++ old = set_at front x old c o at
+    ∙ sym (append_assoc front (c ∷ []) old) in
     ap (λ l. set_cells (made l) (o + 1) cs) split
     ∙ over number writable (front ++ c ∷ []) old cs (o + 1) next (omega arith)
     ∙ ap made (append_assoc front (c ∷ []) cs)
@@ -119,7 +127,8 @@ made_block f b n writable live xs e =
     rw here (ap (λ k. k ∷ live) (over b writable [] nothing (cells_from f 0 xs) 0 refl size))
 
 -- the block of a variable is made
-pub variable_made : (f : List ℕ → ℤ → Val) (b n : ℕ) (writable : Bool) (m k l : Memory) (xs : List Init) → b ≡ m.next → k ≡ pushed m n writable
+pub variable_made : (f : List ℕ → ℤ → Val) (b n : ℕ) (writable : Bool) (m k l : Memory) (xs : List Init) → b ≡ m.next
+    → k ≡ pushed m n writable
     → n ≡ variable_size xs → l ≡ record k { live = update b (λ j. set_cells j 0 (cells_from f 0 xs)) k.live }
     → l ≡ record { live = record { number = m.next; writable = writable; cells = cells_from f 0 xs } ∷ m.live; next = suc m.next }
 variable_made f b n writable m k l xs number at size is =

@@ -1,5 +1,6 @@
 -- Lists made from the keys of a program, by one key more.
-use Rattle.std.proofs.Common.{◌≡◌, ℕ, zero, suc, ◌+◌, ◌≤◌, Bool, true, false, List, [], ◌∷◌, ◌++◌, length, map, take, Option, Some, refl, subst, ap, sym, ◌∙◌, arith}
+use Rattle.std.proofs.Common.{◌≡◌, ℕ, zero, suc, ◌+◌, ◌≤◌, Bool, true, false, List, [], ◌∷◌, ◌++◌, length, map, take, Option, Some, refl}
+use Rattle.std.proofs.Common.{subst, ap, sym, ◌∙◌, arith}
 use Rattle.std.specs.Prelude.{slice_get, filter, flat_map, reverse, cond}
 use Rattle.std.specs.List.{enumerate_from}
 use Rattle.std.proofs.lemmas.List.{length-append, length_push, map-append, reverse-append, take_all, take_more, append-nil}
@@ -38,14 +39,16 @@ pub filter_with : {A : Type 0} (p : A → Bool) (xs : List A) (k : ℕ) (x : A) 
     → filter p (take (k + 1) xs) ≡ filter p (take k xs) ++ cond (p x) (x ∷ []) []
 filter_with p xs k x h = ap (filter p) (take_with xs k x h) ∙ filter-append p (take k xs) (x ∷ [])
 
-enumerate_with : {A : Type 0} (n : ℕ) (xs : List A) (x : A) → enumerate_from n (xs ++ x ∷ []) ≡ enumerate_from n xs ++ (n + length xs, x) ∷ []
+enumerate_with : {A : Type 0} (n : ℕ) (xs : List A) (x : A) → enumerate_from n (xs ++ x ∷ []) ≡ enumerate_from n xs
+    ++ (n + length xs, x) ∷ []
 enumerate_with n [] x = let e : n ≡ n + 0 = omega arith in ap (λ (m : ℕ). (m, x) ∷ []) e
 enumerate_with n (y ∷ xs) x =
     let e : n + 1 + length xs ≡ n + suc (length xs) = omega arith in
     ap (λ l. (n, y) ∷ l) (enumerate_with (n + 1) xs x ∙ ap (λ (m : ℕ). enumerate_from (n + 1) xs ++ (m, x) ∷ []) e)
 
 numbered_with : {A : Type 0} (xs : List A) (x : A) → enumerate_from 0 (xs ++ x ∷ []) ≡ enumerate_from 0 xs ++ (length xs, x) ∷ []
-numbered_with xs x = let e : 0 + length xs ≡ length xs = omega arith in enumerate_with 0 xs x ∙ ap (λ (m : ℕ). enumerate_from 0 xs ++ (m, x) ∷ []) e
+numbered_with xs x = let e : 0 + length xs ≡ length xs = omega arith in
+    enumerate_with 0 xs x ∙ ap (λ (m : ℕ). enumerate_from 0 xs ++ (m, x) ∷ []) e
 
 length_taken : {A : Type 0} (xs : List A) (k : ℕ) → k ≤ length xs → length (take k xs) ≡ k
 length_taken xs zero h = refl
@@ -58,7 +61,8 @@ all_taken xs k n e h = take_all k xs (omega arith)
 -- ---- kinds
 
 counted : (p : Item → Bool) (xs : List Declaration) (k : ℕ) (d : Declaration) → slice_get xs k ≡ Some d
-    → length (filter (λ (e : Declaration). p e.item) (take (k + 1) xs)) ≡ length (filter (λ (e : Declaration). p e.item) (take k xs)) + one_if (p d.item)
+    → length (filter (λ (e : Declaration). p e.item) (take (k + 1) xs))
+    ≡ length (filter (λ (e : Declaration). p e.item) (take k xs)) + one_if (p d.item)
 counted p xs k d h =
     ap length (filter_with (λ (e : Declaration). p e.item) xs k d h)
     ∙ length-append (filter (λ (e : Declaration). p e.item) (take k xs)) (cond (p d.item) (d ∷ []) [])
@@ -68,7 +72,8 @@ counted p xs k d h =
     one true = refl
     one false = refl
 
-kind_of_next : (units : List Unit) (k : ℕ) (t : KindTable) (d : Declaration) → HasKinds units k t → next_kind t d.item ≡ key_kind units (k, d)
+kind_of_next : (units : List Unit) (k : ℕ) (t : KindTable) (d : Declaration) → HasKinds units k t
+    → next_kind t d.item ≡ key_kind units (k, d)
 kind_of_next units k t d h = at d.item
   where
     at : (i : Item) → next_kind t i ≡ key_kind units (k, record { unit = d.unit; item = i })
@@ -83,7 +88,8 @@ pub kinds_step : (units : List Unit) (k : ℕ) (t u : KindTable) (d : Declaratio
     → u.externals ≡ t.externals + one_if (is_external d.item)
     → HasKinds units (k + 1) u
 kinds_step units k t u d h is kinds functions variables externals = record {
-  kinds = kinds ∙ ap (λ x. t.kinds.items ++ x ∷ []) (kind_of_next units k t d h) ∙ ap (λ l. l ++ key_kind units (k, d) ∷ []) h.kinds ∙ sym more;
+  kinds = kinds ∙ ap (λ x. t.kinds.items ++ x ∷ []) (kind_of_next units k t d h) ∙ ap (λ l. l ++ key_kind units (k, d) ∷ []) h.kinds
+      ∙ sym more;
   functions = functions ∙ ap (λ (m : ℕ). m + one_if (is_function d.item)) h.functions ∙ sym (counted is_function (keys units) k d is);
   variables = variables ∙ ap (λ (m : ℕ). m + one_if (is_variable d.item)) h.variables ∙ sym (counted is_variable (keys units) k d is);
   externals = externals ∙ ap (λ (m : ℕ). m + one_if (is_external d.item)) h.externals ∙ sym (counted is_external (keys units) k d is);
@@ -98,7 +104,8 @@ kinds_step units k t u d h is kinds functions variables externals = record {
         ap (λ l. map (key_kind units) (enumerate_from 0 l)) (take_with (keys units) k d is)
         ∙ ap (map (key_kind units)) (numbered_with (take k (keys units)) d)
         ∙ map-append (key_kind units) (enumerate_from 0 (take k (keys units))) ((length (take k (keys units)), d) ∷ [])
-        ∙ ap (λ (m : ℕ). map (key_kind units) (enumerate_from 0 (take k (keys units))) ++ key_kind units (m, d) ∷ []) (length_taken (keys units) k few)
+        ∙ ap (λ (m : ℕ). map (key_kind units) (enumerate_from 0 (take k (keys units))) ++ key_kind units (m, d) ∷ [])
+        (length_taken (keys units) k few)
 
 filtered_few : {A : Type 0} (p : A → Bool) (xs : List A) → length (filter p xs) ≤ length xs
 filtered_few p [] = omega arith
@@ -125,13 +132,16 @@ pub variables_counted : (units : List Unit) → length (variables units) ≡ len
 unfolding variables variable_keys
 variables_counted units = at (keys units)
   where
-    at : (ds : List Declaration) → length (flat_map (λ (d : Declaration). item_variables d.item) ds) ≡ length (filter (λ (d : Declaration). is_variable d.item) ds)
+    at : (ds : List Declaration) → length (flat_map (λ (d : Declaration). item_variables d.item) ds)
+        ≡ length (filter (λ (d : Declaration). is_variable d.item) ds)
     at [] = refl
     at (d ∷ ds) = each d.item (at ds)
       where
-        each : (i : Item) → length (flat_map (λ (e : Declaration). item_variables e.item) ds) ≡ length (filter (λ (e : Declaration). is_variable e.item) ds)
+        each : (i : Item) → length (flat_map (λ (e : Declaration). item_variables e.item) ds)
+            ≡ length (filter (λ (e : Declaration). is_variable e.item) ds)
             → length (item_variables i ++ flat_map (λ (e : Declaration). item_variables e.item) ds)
-            ≡ length (cond (is_variable i) (d ∷ filter (λ (e : Declaration). is_variable e.item) ds) (filter (λ (e : Declaration). is_variable e.item) ds))
+            ≡ length (cond (is_variable i) (d ∷ filter (λ (e : Declaration). is_variable e.item) ds)
+            (filter (λ (e : Declaration). is_variable e.item) ds))
         each (OfFunction f) h = h
         each (OfVariable x) h = ap suc h
         each (OfExternal x) h = h
@@ -176,7 +186,8 @@ unfolding variable_blocks
 no_variables units = record { live = refl; next = refl; below = tt }
 
 pub all_variables : (units : List Unit) (k n : ℕ) (m : Memory) → n ≡ length (keys units) → n ≤ k
-    → HasVariables units (filter (λ (e : Declaration). is_variable e.item) (take k (keys units))) m → HasVariables units (variable_keys units) m
+    → HasVariables units (filter (λ (e : Declaration). is_variable e.item) (take k (keys units))) m
+    → HasVariables units (variable_keys units) m
 unfolding variable_keys
 all_variables units k n m e h v =
     let P : List Declaration → Type 0 = λ ds. HasVariables units (filter (λ (e : Declaration). is_variable e.item) ds) m in
@@ -188,7 +199,8 @@ pub kinds_all : (units : List Unit) (t : KindTable) → HasKinds units (length (
     → (t.kinds.items ≡ key_kinds units) × (t.variables ≡ length (variables units))
 unfolding key_kinds variable_keys
 kinds_all units t h =
-    let all : take (length (keys units)) (keys units) ≡ keys units = all_taken (keys units) (length (keys units)) (length (keys units)) refl (omega arith) in (
+    let all : take (length (keys units)) (keys units) ≡ keys units =
+    all_taken (keys units) (length (keys units)) (length (keys units)) refl (omega arith) in (
       h.kinds ∙ ap (λ l. map (key_kind units) (enumerate_from 0 l)) all,
       h.variables ∙ ap (λ l. length (filter (λ (d : Declaration). is_variable d.item) l)) all ∙ sym (variables_counted units),
     )

@@ -4,3 +4,4 @@ pub mod Cells
 pub mod Stacking
 pub mod Stepping
 pub mod Starting
+pub mod Homes

@@ -23,7 +23,8 @@ none_found : (b : ℕ) (live : List Live) → total_from b live ≡ None → is_
 none_found b [] h = refl
 none_found b (k ∷ ks) h = at (has b k) h (none_found b ks)
   where
-    at : (t : Bool) → (if t then Some (total (k ∷ ks)) else total_from b ks) ≡ None → (total_from b ks ≡ None → is_some (find (has b) ks) ≡ false)
+    at : (t : Bool) → (if t then Some (total (k ∷ ks)) else total_from b ks) ≡ None
+        → (total_from b ks ≡ None → is_some (find (has b) ks) ≡ false)
         → is_some (cond t (Some k) (find (has b) ks)) ≡ false
     at true e r = absurd (cc)
     at false e r = r e
@@ -32,7 +33,8 @@ one_found : (b n : ℕ) (live : List Live) → total_from b live ≡ Some n → 
 one_found b n [] h = absurd (cc)
 one_found b n (k ∷ ks) h = at (has b k) h (one_found b n ks)
   where
-    at : (t : Bool) → (if t then Some (total (k ∷ ks)) else total_from b ks) ≡ Some n → (total_from b ks ≡ Some n → is_some (find (has b) ks) ≡ true)
+    at : (t : Bool) → (if t then Some (total (k ∷ ks)) else total_from b ks) ≡ Some n
+        → (total_from b ks ≡ Some n → is_some (find (has b) ks) ≡ true)
         → is_some (cond t (Some k) (find (has b) ks)) ≡ true
     at true e r = refl
     at false e r = r e

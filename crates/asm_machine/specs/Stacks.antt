@@ -27,5 +27,6 @@ home variables b live = if is_some (find (has b) live) then Some (home_in variab
 
 -- frames on the root on the variables, where the root and the variables have so many cells together
 pub data IsStack (variables base : ℕ) : List Live → Type 0 where
-  Root : (k : Live) (ks : List Live) → k.number ≡ variables → Below variables ks → length k.cells + total ks ≡ base → IsStack variables base (k ∷ ks)
+  Root : (k : Live) (ks : List Live) → k.number ≡ variables → Below variables ks → length k.cells + total ks ≡ base
+      → IsStack variables base (k ∷ ks)
   Frame : (k : Live) (ks : List Live) → variables < k.number → IsStack variables base ks → IsStack variables base (k ∷ ks)

@@ -5,7 +5,8 @@ ghost use Rattle.asm_shapes.specs.Units.{external_fits, function_fits};
 ghost use Rattle.link_model.specs.Numbers.{is_function, is_variable};
 ghost use Rattle.link_model.specs.Program.{is_external, keys};
 ghost use Rattle.name_addresses.specs.Keys.{ItemFits, declared, declared_item};
-ghost use Rattle.asm_machine.specs.Executables.{item_routines, item_sig, key_kinds, key_meant, key_named, linked, routine_of, routines, sigs};
+ghost use Rattle.asm_machine.specs.Executables.{item_routines, item_sig, key_kinds, key_meant, key_named, linked, routine_of, routines};
+ghost use Rattle.asm_machine.specs.Executables.{sigs};
 ghost use Rattle.asm_machine.specs.Parts.{HasKinds, next_kind, one_if};
 
 use asm_step::executable::{Callee, Executable, IndexedRoutine};
@@ -139,7 +140,8 @@ fn push_routine<'u, P: KeyedProgram>(
     key: &Key<'u>,
 ) -> Result<(), AllocError>
     requires { ItemFits key.now.item }
-    ensures { OnOk result (routines.new.items ≡ routines.old.items ++ item_routines (P.program p.now).units key.now.unit (declared_item key.now.item)) }
+    ensures { OnOk result
+        (routines.new.items ≡ routines.old.items ++ item_routines (P.program p.now).units key.now.unit (declared_item key.now.item)) }
 {
     if let KeyItem::Function(f) = key.item {
         let r = routine(alloc, p, key.unit, f)?;

@@ -1,12 +1,12 @@
 //! The machine: its first state, its steps, and where its blocks stand.
 
-ghost use Rattle.std.specs.Prelude.{◌≡◌, ◌<◌, ◌+◌, ◌-◌, false, max, length, IfOk, Some, [], option_copied};
+ghost use Rattle.std.specs.Prelude.{◌≡◌, ◌<◌, ◌≤◌, ◌+◌, ◌-◌, false, max, length, IfOk, Some, [], option_copied};
 ghost use Rattle.limits.specs.declared.TheConstants.{MOST_BLOCKS, MOST_FRAMES};
 ghost use Rattle.link_model.specs.Numbers.{entry_key};
 ghost use Rattle.link_model.specs.Program.{keys};
 ghost use Rattle.asm_step.specs.Answers.{Shows};
 ghost use Rattle.asm_step.specs.Steps.{asm_step, frame_comes};
-ghost use Rattle.asm_machine.specs.Cpus.{Stepped, first_cpu, goes_on};
+ghost use Rattle.asm_machine.specs.Cpus.{Hands, Stepped, first_cpu, goes_on};
 ghost use Rattle.asm_machine.specs.Executables.{linked};
 ghost use Rattle.asm_machine.specs.Stacks.{frame_cells, home};
 ghost use Rattle.asm_machine.specs.Starts.{first_file};
@@ -74,7 +74,8 @@ fn advance(
 ) -> Asm
     requires next { machine.old.next < MOST_BLOCKS }
     requires none { bytes.old ≡ [] }
-    ensures answer { Stepped (asm_step p.now machine.old (option_copied reply.entry)) (frame_comes p.now machine.old.place) result machine.old machine.new }
+    ensures answer { Stepped (asm_step p.now machine.old (option_copied reply.entry)) (frame_comes p.now machine.old.place) result
+        machine.old machine.new }
     ensures read { Shows result (asm_step p.now machine.old (option_copied reply.entry)) bytes.new }
 {
     match machine.step(p, reply, bytes) {
@@ -145,10 +146,13 @@ impl AsmCpu {
     pub fn step(&mut self, p: &Executable, reply: Option<&Reply>, bytes: &mut CallBytes) -> Asm
         requires program { p.now.variables ≡ self.old.variables }
         requires frames { self.old.state.next - (self.old.variables + 1) < MOST_FRAMES }
-        ensures answer { Stepped (asm_step p.now self.old.state (option_copied reply.entry)) (frame_comes p.now self.old.state.place) result self.old.state self.new.state }
+        ensures answer { Stepped (asm_step p.now self.old.state (option_copied reply.entry)) (frame_comes p.now self.old.state.place)
+            result self.old.state self.new.state }
         ensures read { Shows result (asm_step p.now self.old.state (option_copied reply.entry)) bytes.new }
         ensures deepest { self.new.deepest ≡ max self.old.deepest (frame_cells self.old.variables self.new.state.live) }
         ensures variables { self.new.variables ≡ self.old.variables }
+        ensures grows { self.new.state.next ≤ self.old.state.next + 1 }
+        ensures hands { Hands self.old.variables self.old.state (asm_step p.now self.old.state (option_copied reply.entry)) }
         ensures unchanged { goes_on result ≡ false → self.new ≡ self.old }
     {
         bytes.clear();

@@ -9,7 +9,8 @@ ghost use Rattle.asm_mem.specs.Order.{Below};
 ghost use Rattle.link_model.specs.Program.{keys, OfVariable};
 ghost use Rattle.name_addresses.specs.Keys.{ItemFits, declared, declared_item};
 ghost use Rattle.asm_machine.specs.Executables.{key_kinds};
-ghost use Rattle.asm_machine.specs.Variables.{address_cells, cells_from, init_cells, item_block, named_value, variable_blocks, variable_keys};
+ghost use Rattle.asm_machine.specs.Variables.{address_cells, cells_from, init_cells, item_block, named_value, variable_blocks};
+ghost use Rattle.asm_machine.specs.Variables.{variable_keys};
 ghost use Rattle.asm_machine.specs.Parts.{HasVariables, with_item};
 
 use crate::executable::key_meant;
@@ -43,7 +44,11 @@ fn put_item<P: KeyedProgram>(
     item: &Init,
 )
     requires { kinds.now ≡ key_kinds (P.program p.now).units }
-    ensures { blocks.new ≡ record blocks.old { live = update b (λ k. set_cells k o (init_cells (named_value (P.program p.now).units unit) o item.now)) blocks.old.live } }
+    ensures { blocks.new
+        ≡ record blocks.old {
+          live =
+              update b (λ k. set_cells k o (init_cells (named_value (P.program p.now).units unit) o item.now)) blocks.old.live;
+        } }
 {
     match item {
         Init::Int8(n) => blocks.set_bytes(b, o, &[*n]),
@@ -69,7 +74,11 @@ fn put_items<P: KeyedProgram>(
 )
     requires kinds { kinds.now ≡ key_kinds (P.program p.now).units }
     requires size { variable_size init.now ≤ MOST_VARIABLE_BYTES }
-    ensures { blocks.new ≡ record blocks.old { live = update b (λ k. set_cells k 0 (cells_from (named_value (P.program p.now).units unit) 0 init.now)) blocks.old.live } }
+    ensures { blocks.new
+        ≡ record blocks.old {
+          live =
+              update b (λ k. set_cells k 0 (cells_from (named_value (P.program p.now).units unit) 0 init.now)) blocks.old.live;
+        } }
 {
     let mut offset = 0;
     for item in init {
@@ -101,7 +110,11 @@ fn put_variable<P: KeyedProgram>(
     requires kinds { kinds.now ≡ key_kinds (P.program p.now).units }
     requires fits { variable_fits x.now ≡ true }
     requires next { blocks.old.next < MOST_BLOCKS }
-    ensures { OnOk result (blocks.new ≡ record { live = item_block (P.program p.now).units blocks.old.next unit (OfVariable x.now) ∷ blocks.old.live; next = suc blocks.old.next }) }
+    ensures { OnOk result
+        (blocks.new ≡ record {
+          live = item_block (P.program p.now).units blocks.old.next unit (OfVariable x.now) ∷ blocks.old.live;
+          next = suc blocks.old.next;
+        }) }
 {
     let b = blocks.alloc_block(size_of(x), x.writable)?;
     put_items(p, kinds, unit, blocks, b, x.init.items());

@@ -1,5 +1,6 @@
 -- How many cells blocks have together, and the newest of them.
-use Rattle.std.proofs.Common.{◌≡◌, ℕ, zero, suc, ◌+◌, ◌-◌, ◌<◌, ◌≤◌, Bool, true, false, List, [], ◌∷◌, ◌++◌, length, take, drop, slice_index_or, slice_set, reverse, Some, None, refl, ap, sym, ◌∙◌, arith, if◌then◌else◌}
+use Rattle.std.proofs.Common.{◌≡◌, ℕ, zero, suc, ◌+◌, ◌-◌, ◌<◌, ◌≤◌, Bool, true, false, List, [], ◌∷◌, ◌++◌, length, take, drop}
+use Rattle.std.proofs.Common.{slice_index_or, slice_set, reverse, Some, None, refl, ap, sym, ◌∙◌, arith, if◌then◌else◌}
 use Rattle.std.specs.Prelude.{find}
 use Rattle.std.proofs.lemmas.List.{length-replicate}
 use Rattle.asm_mem.specs.declared.cell.Cell.TheVariants.{Nothing}
@@ -21,7 +22,8 @@ total_reverse [] = refl
 total_reverse (k ∷ ks) =
     rw (reverse_cons k ks) (omega (arith, total_append (reverse ks) (k ∷ []), total_reverse ks))
 
-total_set : (ks : List Live) (i : ℕ) (x d : Live) → length x.cells ≡ length (slice_index_or ks i d).cells → total (slice_set ks i x) ≡ total ks
+total_set : (ks : List Live) (i : ℕ) (x d : Live) → length x.cells ≡ length (slice_index_or ks i d).cells
+    → total (slice_set ks i x) ≡ total ks
 total_set [] i x d e = refl
 total_set (k ∷ ks) zero x d e = omega (arith, e)
 total_set (k ∷ ks) (suc i) x d e = omega (arith, total_set ks i x d e)
@@ -107,7 +109,8 @@ newest_past [] i h = refl
 newest_past (k ∷ ks) zero h = absurd (omega arith)
 newest_past (k ∷ ks) (suc i) h = newest_past ks i (omega arith)
 
-pub newest_reverse : (ks : List Live) (i : ℕ) (d : Live) → i < length ks → newest (reverse ks) i ≡ Some (slice_index_or ks (length ks - 1 - i) d).number
+pub newest_reverse : (ks : List Live) (i : ℕ) (d : Live) → i < length ks
+    → newest (reverse ks) i ≡ Some (slice_index_or ks (length ks - 1 - i) d).number
 newest_reverse ks i d h =
     newest_at (reverse ks) i d (omega (arith, length-reverse ks)) ∙ ap (λ (k : Live). Some k.number) (get_or-reverse ks i d h)
 

@@ -1,5 +1,6 @@
 -- Bytes that are written into a block, one after another.
-use Rattle.std.proofs.Common.{◌≡◌, ℕ, zero, suc, ◌+◌, ◌<◌, ◌≤◌, Bool, true, false, List, [], ◌∷◌, length, map, drop, replicate, get_or, Some, refl, ap, ◌∙◌, arith, if◌then◌else◌}
+use Rattle.std.proofs.Common.{◌≡◌, ℕ, zero, suc, ◌+◌, ◌<◌, ◌≤◌, Bool, true, false, List, [], ◌∷◌, length, map, drop, replicate, get_or}
+use Rattle.std.proofs.Common.{Some, refl, ap, ◌∙◌, arith, if◌then◌else◌}
 use Rattle.std.specs.Prelude.{◌==◌}
 use Rattle.std.proofs.lemmas.List.{drop_more}
 use Rattle.asm_mem.specs.declared.cell.Cell.TheVariants.{Byte}
@@ -38,7 +39,8 @@ fill_step live b o i a d bytes h e =
     let x = get_or bytes i d in
     let rest = map Byte (drop (i + 1) bytes) in
     let next : o + (i + 1) ≡ o + i + 1 = omega arith in
-    rw (drop_more bytes i d h, next, e) (update_then b (λ k. set_cell k (o + i) (Byte x)) (λ k. set_cells k (o + i + 1) rest) live (λ k. refl))
+    rw (drop_more bytes i d h, next, e)
+    (update_then b (λ k. set_cell k (o + i) (Byte x)) (λ k. set_cells k (o + i + 1) rest) live (λ k. refl))
 
 pub all_filled : (live : List Live) (b o i : ℕ) (bytes : List ℕ) → length bytes ≤ i
     → update b (λ k. set_cells k (o + i) (map Byte (drop i bytes))) live ≡ live

@@ -1,5 +1,6 @@
 -- The cells of slots, by their places.
-use Rattle.std.proofs.Common.{◌≡◌, ℕ, zero, suc, ◌+◌, ◌*◌, ◌/◌, ◌%◌, ◌<◌, ◌≤◌, List, [], ◌∷◌, length, replicate, take, slice_index_or, slice_set, Option, Some, None, refl, ap, ◌∙◌, arith}
+use Rattle.std.proofs.Common.{◌≡◌, ℕ, zero, suc, ◌+◌, ◌*◌, ◌/◌, ◌%◌, ◌<◌, ◌≤◌, List, [], ◌∷◌, length, replicate, take, slice_index_or}
+use Rattle.std.proofs.Common.{slice_set, Option, Some, None, refl, ap, ◌∙◌, arith}
 use Rattle.asm_mem.specs.declared.value.Val.{Val}
 use Rattle.asm_mem.specs.declared.value.Val.TheVariants as val
 use Rattle.asm_mem.specs.declared.cell.Cell.{Cell}
@@ -39,14 +40,17 @@ flat_set (s ∷ ss) (suc q) r (suc zero) d b e l h = absurd (omega arith)
 flat_set (s ∷ ss) (suc q) r (suc (suc zero)) d b e l h = absurd (omega arith)
 flat_set (s ∷ ss) (suc q) r (suc (suc (suc zero))) d b e l h = absurd (omega arith)
 flat_set (s ∷ ss) (suc q) r (suc (suc (suc (suc o)))) d b e l h =
-    ap (λ (l : List Cell). slot_cell s 0 ∷ slot_cell s 1 ∷ slot_cell s 2 ∷ slot_cell s 3 ∷ l) (flat_set ss q r o d b (omega arith) l (omega arith))
+    ap (λ (l : List Cell). slot_cell s 0 ∷ slot_cell s 1 ∷ slot_cell s 2 ∷ slot_cell s 3 ∷ l)
+    (flat_set ss q r o d b (omega arith) l (omega arith))
 
 -- four cells of a value
 abbrev put_four : List Cell → ℕ → Val → List Cell
 put_four xs o v =
-    slice_set (slice_set (slice_set (slice_set xs o (part_of v 0)) (suc o) (part_of v 1)) (suc (suc o)) (part_of v 2)) (suc (suc (suc o))) (part_of v 3)
+    slice_set (slice_set (slice_set (slice_set xs o (part_of v 0)) (suc o) (part_of v 1)) (suc (suc o)) (part_of v 2))
+    (suc (suc (suc o))) (part_of v 3)
 
-put_first : (x y z w : Cell) (xs : List Cell) (ss : List Slot) (v : Val) → xs ≡ flat ss → put_four (x ∷ y ∷ z ∷ w ∷ xs) 0 v ≡ flat (slot_of v ∷ ss)
+put_first : (x y z w : Cell) (xs : List Cell) (ss : List Slot) (v : Val) → xs ≡ flat ss
+    → put_four (x ∷ y ∷ z ∷ w ∷ xs) 0 v ≡ flat (slot_of v ∷ ss)
 put_first x y z w xs ss val.Undef e = rw e refl
 put_first x y z w xs ss (val.Int n) e = rw e refl
 put_first x y z w xs ss (val.Ptr b o) e = rw e refl
@@ -63,7 +67,8 @@ flat_put (s ∷ ss) (suc q) (suc zero) v e h = absurd (omega arith)
 flat_put (s ∷ ss) (suc q) (suc (suc zero)) v e h = absurd (omega arith)
 flat_put (s ∷ ss) (suc q) (suc (suc (suc zero))) v e h = absurd (omega arith)
 flat_put (s ∷ ss) (suc q) (suc (suc (suc (suc o)))) v e h =
-    ap (λ (l : List Cell). slot_cell s 0 ∷ slot_cell s 1 ∷ slot_cell s 2 ∷ slot_cell s 3 ∷ l) (flat_put ss q o v (omega arith) (omega arith))
+    ap (λ (l : List Cell). slot_cell s 0 ∷ slot_cell s 1 ∷ slot_cell s 2 ∷ slot_cell s 3 ∷ l)
+    (flat_put ss q o v (omega arith) (omega arith))
 
 -- ---- the first cells of a list
 
@@ -85,14 +90,17 @@ cell_at n ss o d h l =
     take_at n (flat ss) o Nothing h ∙ flat_at ss (o / 4) (o % 4) o d Nothing (omega arith) (omega arith) (omega arith)
 
 pub set_at : (n : ℕ) (ss : List Slot) (o : ℕ) (d : Slot) (b : Option ℕ) → o < n → n ≤ 4 * length ss
-    → slice_set (take n (flat ss)) o (byte_cell b) ≡ take n (flat (slice_set ss (o / 4) (slot_set (slice_index_or ss (o / 4) d) (o % 4) (byte_content b))))
+    → slice_set (take n (flat ss)) o (byte_cell b)
+    ≡ take n (flat (slice_set ss (o / 4) (slot_set (slice_index_or ss (o / 4) d) (o % 4) (byte_content b))))
 set_at n ss o d b h l =
-    take_set n (flat ss) o (byte_cell b) ∙ ap (λ (xs : List Cell). take n xs) (flat_set ss (o / 4) (o % 4) o d b (omega arith) (omega arith) (omega arith))
+    take_set n (flat ss) o (byte_cell b)
+    ∙ ap (λ (xs : List Cell). take n xs) (flat_set ss (o / 4) (o % 4) o d b (omega arith) (omega arith) (omega arith))
 
 -- four cells from an offset on
 abbrev put_from : List Cell → ℕ → Val → List Cell
 put_from xs o v =
-    slice_set (slice_set (slice_set (slice_set xs o (part_of v 0)) (o + 1) (part_of v 1)) (o + 1 + 1) (part_of v 2)) (o + 1 + 1 + 1) (part_of v 3)
+    slice_set (slice_set (slice_set (slice_set xs o (part_of v 0)) (o + 1) (part_of v 1)) (o + 1 + 1) (part_of v 2))
+    (o + 1 + 1 + 1) (part_of v 3)
 
 put_is : (xs : List Cell) (o : ℕ) (v : Val) → put_from xs o v ≡ put_four xs o v
 put_is xs o v =

@@ -1,5 +1,6 @@
 -- A block that is changed.
-use Rattle.std.proofs.Common.{◌≡◌, ℕ, zero, suc, ◌<◌, Bool, true, false, List, [], ◌∷◌, ◌++◌, length, slice_index_or, slice_set, reverse, Some, None, refl, ap, subst, sym, ◌∙◌, arith}
+use Rattle.std.proofs.Common.{◌≡◌, ℕ, zero, suc, ◌<◌, Bool, true, false, List, [], ◌∷◌, ◌++◌, length, slice_index_or, slice_set, reverse}
+use Rattle.std.proofs.Common.{Some, None, refl, ap, subst, sym, ◌∙◌, arith}
 use Rattle.std.specs.Prelude.{find}
 use Rattle.std.proofs.lemmas.Bool.{eq-eqb}
 use Rattle.asm_mem.specs.Blocks.{Live, has, update}
@@ -16,7 +17,8 @@ pass_absent f (x ∷ xs) ys b e =
     ] in
     at (has b x) refl
 
-stop_present : (f : Live → Live) (xs ys : List Live) (b : ℕ) (v : Live) → find (has b) xs ≡ Some v → update b f (xs ++ ys) ≡ update b f xs ++ ys
+stop_present : (f : Live → Live) (xs ys : List Live) (b : ℕ) (v : Live) → find (has b) xs ≡ Some v → update b f (xs ++ ys) ≡ update b f xs
+    ++ ys
 stop_present f [] ys b v e = cc
 stop_present f (x ∷ xs) ys b v e =
     let at : (t : Bool) → has b x ≡ t → update b f ((x ∷ xs) ++ ys) ≡ update b f (x ∷ xs) ++ ys = λ t.
@@ -27,7 +29,8 @@ stop_present f (x ∷ xs) ys b v e =
     at (has b x) refl
 
 -- the block of a number, from either end
-pub update_reversed : (f : Live → Live) (ks : List Live) (b i : ℕ) (d : Live) → Rising ks → i < length ks → (slice_index_or ks i d).number ≡ b
+pub update_reversed : (f : Live → Live) (ks : List Live) (b i : ℕ) (d : Live) → Rising ks → i < length ks
+    → (slice_index_or ks i d).number ≡ b
     → update b f (reverse ks) ≡ reverse (slice_set ks i (f (slice_index_or ks i d)))
 update_reversed f [] b i d r h e = absurd (omega arith)
 update_reversed f (k ∷ ks) b zero d r h e =
@@ -55,5 +58,6 @@ rising_set [] i x d r e = tt
 rising_set (k ∷ ks) zero x d r e = let q : k.number ≡ x.number = sym e in (subst (λ n. Above n ks) q r.0, r.1)
 rising_set (k ∷ ks) (suc i) x d r e = (above_set ks i k.number x d r.0 e, rising_set ks i x d r.1 e)
 
-pub kept_blocks : (ks : List Live) (i n : ℕ) (x d : Live) → AreBlocks ks n → x.number ≡ (slice_index_or ks i d).number → AreBlocks (slice_set ks i x) n
+pub kept_blocks : (ks : List Live) (i n : ℕ) (x d : Live) → AreBlocks ks n → x.number ≡ (slice_index_or ks i d).number
+    → AreBlocks (slice_set ks i x) n
 kept_blocks ks i n x d a e = record { rising = rising_set ks i x d a.rising e; below = below_set ks i n x d a.below e }

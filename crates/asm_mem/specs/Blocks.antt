@@ -1,5 +1,6 @@
 -- Blocks of memory, the newest first: what is loaded, stored, made and freed.
-use Rattle.std.specs.Prelude.{ℕ, zero, suc, ◌+◌, ◌%◌, Bool, false, ◌&&◌, ◌||◌, ◌==◌, nat_le, if◌then◌else◌, List, [], ◌∷◌, length, map, replicate, drop, slice_index_or, slice_set, Option, Some, None, find, option_map, option_and_then}
+use Rattle.std.specs.Prelude.{ℕ, zero, suc, ◌+◌, ◌%◌, Bool, false, ◌&&◌, ◌||◌, ◌==◌, nat_le, if◌then◌else◌, List, [], ◌∷◌, length, map}
+use Rattle.std.specs.Prelude.{replicate, drop, slice_index_or, slice_set, Option, Some, None, find, option_map, option_and_then}
 use Rattle.asm_mem.specs.declared.value.Val.{Val}
 use Rattle.asm_mem.specs.declared.value.Val.TheVariants.{Ptr}
 use Rattle.asm_mem.specs.declared.cell.Cell.{Cell}

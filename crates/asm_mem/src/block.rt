@@ -2,7 +2,8 @@
 
 ghost use Rattle.std.specs.Prelude.{◌≡◌, ◌<◌, ◌%◌, ◌^◌, ℕ, length, IfOk, IsTrue, ◌&&◌};
 ghost use Rattle.asm_mem.specs.Edits.{IsPlaced, edited};
-ghost use Rattle.asm_mem.specs.Blocks.{cell, is_width, may_read, new_block, read_block, read_reversed, reversed_at, set_cell, set_cells, value_at, write_block, write_reversed};
+ghost use Rattle.asm_mem.specs.Blocks.{cell, is_width, may_read, new_block, read_block, read_reversed, reversed_at, set_cell, set_cells};
+ghost use Rattle.asm_mem.specs.Blocks.{value_at, write_block, write_reversed};
 ghost use Rattle.asm_mem.specs.Cells.{byte_cell, byte_in, empty_word};
 
 use crate::cell::{Cell, byte_word, four_bytes, half_word, joined, low_byte};

@@ -1,7 +1,10 @@
 //! All blocks: what is made and freed, loads and stores, comparisons and differences of values.
 
-ghost use Rattle.std.specs.Prelude.{◌≡◌, ◌<◌, ◌≤◌, ◌+◌, ◌%◌, ℕ, [], length, replicate, reverse, slice_index_or, find, IfSome, IfNone, IfOk, OnErr, IsTrue, ◌==◌, ◌&&◌, if◌then◌else◌};
-ghost use Rattle.asm_mem.specs.Blocks.{Live, byte_at, emptied, forget, has, is_width, load, load_reversed, may_store, may_write_found, newest, popped, pushed, room, stored, stored_reversed, total, total_from, update, with_byte, with_bytes, written};
+ghost use Rattle.std.specs.Prelude.{◌≡◌, ◌<◌, ◌≤◌, ◌+◌, ◌%◌, ℕ, [], length, replicate, reverse, slice_index_or, find, IfSome, IfNone, IfOk};
+ghost use Rattle.std.specs.Prelude.{OnErr, IsTrue, ◌==◌, ◌&&◌, if◌then◌else◌};
+ghost use Rattle.asm_mem.specs.Blocks.{Live, byte_at, emptied, forget, has, is_width, load, load_reversed, may_store, may_write_found};
+ghost use Rattle.asm_mem.specs.Blocks.{newest, popped, pushed, room, stored, stored_reversed, total, total_from, update, with_byte};
+ghost use Rattle.asm_mem.specs.Blocks.{with_bytes, written};
 ghost use Rattle.asm_mem.specs.Comparison.{compared, difference_of, is_place, is_valid, of_words, reaches, unequal, unknown};
 ghost use Rattle.asm_mem.specs.Edits.{IsPlaced, edited};
 ghost use Rattle.asm_mem.specs.Order.{Rising};
@@ -42,7 +45,8 @@ impl Model for Blocks {
 #[tactic(auto, using(crate::proofs::Reversed::present, crate::proofs::Reversed::absent, crate::proofs::Reversed::rising_at))]
 fn place_in(blocks: &[Block], b: u32) -> Option<usize>
     requires { Rising blocks.now }
-    ensures found { IfSome result (λ i. (i < length blocks.now) × ((d : Live) → find (has b) (reverse blocks.now) ≡ Some (slice_index_or blocks.now i d))) }
+    ensures found { IfSome result
+        (λ i. (i < length blocks.now) × ((d : Live) → find (has b) (reverse blocks.now) ≡ Some (slice_index_or blocks.now i d))) }
     ensures number { IfSome result (λ i. (d : Live) → (slice_index_or blocks.now i d).number ≡ b) }
     ensures none { IfNone result (find (has b) (reverse blocks.now) ≡ None) }
 {
@@ -243,7 +247,10 @@ impl Blocks {
     pub fn store(&mut self, width: u8, at: Val, v: Val) -> bool
         requires { IsTrue (is_width width) }
         ensures answer { result ≡ may_store self.old.live width at }
-        ensures after { self.new ≡ record self.old { live = if may_store self.old.live width at then stored self.old.live width at v else self.old.live } }
+        ensures after { self.new ≡ record self.old {
+          live = if may_store self.old.live width at then stored self.old.live width at v
+              else self.old.live;
+        } }
     {
         match at {
             Val::Ptr(b, o) => {
@@ -261,7 +268,11 @@ impl Blocks {
     pub fn store_reversed(&mut self, width: u8, at: Val, v: Val) -> bool
         requires { IsTrue (is_width width) }
         ensures answer { result ≡ may_store self.old.live width at }
-        ensures after { self.new ≡ record self.old { live = if may_store self.old.live width at then stored_reversed self.old.live width at v else self.old.live } }
+        ensures after { self.new
+            ≡ record self.old {
+              live = if may_store self.old.live width at then stored_reversed self.old.live width at v
+                  else self.old.live;
+            } }
     {
         match at {
             Val::Ptr(b, o) => {

@@ -39,9 +39,12 @@ or_nothing false b c h k = rw h k
 in_unit : (entry : List ℕ) (u : ℕ) (unit : Unit)
     → list_any (at_declaration entry) (unit_declarations u unit) ≡ list_any (is_entry_function entry) unit.functions
 in_unit entry u unit =
-    list_any-append (at_declaration entry) (map (λ f. record { unit = u; item = OfFunction f }) unit.functions) (map (λ x. record { unit = u; item = OfVariable x }) unit.variables ++ map (λ x. record { unit = u; item = OfExternal x }) unit.externals)
+    list_any-append (at_declaration entry) (map (λ f. record { unit = u; item = OfFunction f }) unit.functions)
+    (map (λ x. record { unit = u; item = OfVariable x }) unit.variables
+    ++ map (λ x. record { unit = u; item = OfExternal x }) unit.externals)
     ∙ (ap (λ b. list_any (at_declaration entry) (map (λ f. record { unit = u; item = OfFunction f }) unit.functions) || b)
-    (list_any-append (at_declaration entry) (map (λ x. record { unit = u; item = OfVariable x }) unit.variables) (map (λ x. record { unit = u; item = OfExternal x }) unit.externals))
+    (list_any-append (at_declaration entry) (map (λ x. record { unit = u; item = OfVariable x }) unit.variables)
+    (map (λ x. record { unit = u; item = OfExternal x }) unit.externals))
     ∙ (or_nothing (list_any (at_declaration entry) (map (λ f. record { unit = u; item = OfFunction f }) unit.functions))
     (list_any (at_declaration entry) (map (λ x. record { unit = u; item = OfVariable x }) unit.variables))
     (list_any (at_declaration entry) (map (λ x. record { unit = u; item = OfExternal x }) unit.externals))
@@ -53,10 +56,12 @@ in_units : (entry : List ℕ) (u : ℕ) (units : List Unit)
     ≡ list_any (λ (unit : Unit). list_any (is_entry_function entry) unit.functions) units
 in_units entry u [] = refl
 in_units entry u (unit ∷ units) =
-    list_any-append (at_declaration entry) (unit_declarations u unit) (flat_map (λ (u : ℕ × Unit). unit_declarations u.0 u.1) (enumerate_from (u + 1) units))
+    list_any-append (at_declaration entry) (unit_declarations u unit)
+    (flat_map (λ (u : ℕ × Unit). unit_declarations u.0 u.1) (enumerate_from (u + 1) units))
     ∙ (λ k. in_unit entry u unit k || in_units entry (u + 1) units k)
 
 pub entry_among : (entry : List ℕ) (units : List Unit)
-    → list_any (λ d. is_entry entry d.item) (declarations units) ≡ list_any (λ (unit : Unit). list_any (is_entry_function entry) unit.functions) units
+    → list_any (λ d. is_entry entry d.item) (declarations units)
+    ≡ list_any (λ (unit : Unit). list_any (is_entry_function entry) unit.functions) units
 unfolding declarations
 entry_among entry units = in_units entry 0 units

@@ -67,10 +67,12 @@ seen_step false false d o p h k = k
 -- a look-up, as it is seen
 pub get_is : (q : List ℕ) (es : List Entry) → option_map declaration_seen (lookup (is_kept q) es) ≡ lookup (bytes_eq q) (named es)
 get_is q [] = refl
-get_is q (e ∷ es) = seen_step (is_kept q e.0) (bytes_eq q e.0.now) e.1 (lookup (is_kept q) es) (lookup (bytes_eq q) (named es)) (is_kept_is q e.0) (get_is q es)
+get_is q (e ∷ es) = seen_step (is_kept q e.0) (bytes_eq q e.0.now) e.1 (lookup (is_kept q) es) (lookup (bytes_eq q) (named es))
+    (is_kept_is q e.0) (get_is q es)
 
 pub insert_seen : (q : List ℕ) (es : List Entry) (k : Bor (List ℕ)) (v : Declared)
-    → lookup (bytes_eq q) (named (insert_entry by_text es k v)) ≡ cond (bytes_eq q k.now) (Some (declaration_seen v)) (lookup (bytes_eq q) (named es))
+    → lookup (bytes_eq q) (named (insert_entry by_text es k v)) ≡ cond (bytes_eq q k.now) (Some (declaration_seen v))
+    (lookup (bytes_eq q) (named es))
 insert_seen q es k v =
     sym (get_is q (insert_entry by_text es k v))
     ∙ (ap (option_map declaration_seen) (insert_found q es k v)

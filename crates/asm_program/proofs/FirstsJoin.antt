@@ -60,7 +60,8 @@ alike_meet Externals = sig_meet
 more : (alike : Item → Item → Bool) → Meet alike → (all b : Bool) (d : Declaration) (o : Option Declaration) (p : Item)
     → all ≡ option_map_or (λ (f : Declaration). alike f.item p) o true
     → (b ≡ true → option_map_or (λ (f : Declaration). alike f.item d.item) o true ≡ true)
-    → (all && ((not b || alike d.item p) && true)) ≡ option_map_or (λ (f : Declaration). alike f.item p) (option_or o (cond b (Some d) None)) true
+    → (all && ((not b || alike d.item p) && true)) ≡ option_map_or (λ (f : Declaration). alike f.item p)
+    (option_or o (cond b (Some d) None)) true
 more alike meet all true d None p h k = rw h (and_true (alike d.item p))
   where
     and_true : (b : Bool) → (b && true) ≡ b
@@ -87,7 +88,10 @@ pub stand_more : (alike : Item → Item → Bool) → Meet alike → (firsts oth
     → StandFor alike others (earlier ++ d ∷ [])
 stand_more alike meet firsts others earlier d stand like added v p =
     list_all-append (λ e. not (bytes_eq (name_of e) v) || alike e.item p) earlier (d ∷ [])
-    ∙ (more alike meet (list_all (λ e. not (bytes_eq (name_of e) v) || alike e.item p) earlier) (bytes_eq (name_of d) v) d (lookup (bytes_eq v) firsts) p (stand v p)
-    (λ t. ap (λ n. option_map_or (λ (f : Declaration). alike f.item d.item) (lookup (bytes_eq n) firsts) true) (sym ((bytes_eq-Decides (name_of d) v).0 t)) ∙ like)
-    ∙ (ap (λ b. option_map_or (λ (f : Declaration). alike f.item p) (option_or (lookup (bytes_eq v) firsts) (cond b (Some d) None)) true) (bytes_eq_swap (name_of d) v)
+    ∙ (more alike meet (list_all (λ e. not (bytes_eq (name_of e) v) || alike e.item p) earlier) (bytes_eq (name_of d) v) d
+    (lookup (bytes_eq v) firsts) p (stand v p)
+    (λ t. ap (λ n. option_map_or (λ (f : Declaration). alike f.item d.item) (lookup (bytes_eq n) firsts) true)
+    (sym ((bytes_eq-Decides (name_of d) v).0 t)) ∙ like)
+    ∙ (ap (λ b. option_map_or (λ (f : Declaration). alike f.item p) (option_or (lookup (bytes_eq v) firsts) (cond b (Some d) None)) true)
+    (bytes_eq_swap (name_of d) v)
     ∙ ap (λ o. option_map_or (λ (f : Declaration). alike f.item p) o true) (sym (added v))))

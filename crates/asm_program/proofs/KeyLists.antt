@@ -1,5 +1,6 @@
 -- The keys so far, and the place of a name among them.
-use Rattle.std.proofs.Common.{◌≡◌, ℕ, suc, ◌+◌, Bool, true, false, ◌||◌, not, List, [], ◌∷◌, ◌++◌, length, cond, refl, sym, ◌∙◌, ap, arith, append_assoc, add-zero, zero-add, if◌then◌else◌}
+use Rattle.std.proofs.Common.{◌≡◌, ℕ, suc, ◌+◌, Bool, true, false, ◌||◌, not, List, [], ◌∷◌, ◌++◌, length, cond, refl, sym, ◌∙◌, ap, arith}
+use Rattle.std.proofs.Common.{append_assoc, add-zero, zero-add, if◌then◌else◌}
 use Rattle.std.specs.Prelude.{Option, Some, None, is_some, position, nat_lt}
 use Rattle.std.specs.List.{list_any, position_from, position_or_len}
 use Rattle.std.proofs.lemmas.List.Folds.{list_any-append}
@@ -75,16 +76,19 @@ module _ {X : Type 0} (p : X → Bool) where
       let l = or_left (p x) (list_any p xs) h in let r = or_right (p x) (list_any p xs) h in rw l (absent (k + 1) xs r)
 
   snoc_step : (b : Bool) (k : ℕ) (x : X) (ys : List X)
-      → position_from p (k + 1) (ys ++ x ∷ []) ≡ cond (list_any p ys) (position_from p (k + 1) ys) (cond (p x) (Some (k + 1 + length ys)) (let none : Option ℕ = None in none))
+      → position_from p (k + 1) (ys ++ x ∷ []) ≡ cond (list_any p ys) (position_from p (k + 1) ys)
+      (cond (p x) (Some (k + 1 + length ys)) (let none : Option ℕ = None in none))
       → cond b (Some k) (position_from p (k + 1) (ys ++ x ∷ []))
-      ≡ cond (b || list_any p ys) (cond b (Some k) (position_from p (k + 1) ys)) (cond (p x) (Some (k + suc (length ys))) (let none : Option ℕ = None in none))
+      ≡ cond (b || list_any p ys) (cond b (Some k) (position_from p (k + 1) ys))
+      (cond (p x) (Some (k + suc (length ys))) (let none : Option ℕ = None in none))
   snoc_step true k x ys h = refl
   snoc_step false k x ys h =
       let e : k + 1 + length ys ≡ k + suc (length ys) = omega arith in
       h ∙ ap (λ n. cond (list_any p ys) (position_from p (k + 1) ys) (cond (p x) (Some n) (let none : Option ℕ = None in none))) e
 
   position_snoc : (k : ℕ) (xs : List X) (x : X)
-      → position_from p k (xs ++ x ∷ []) ≡ cond (list_any p xs) (position_from p k xs) (cond (p x) (Some (k + length xs)) (let none : Option ℕ = None in none))
+      → position_from p k (xs ++ x ∷ []) ≡ cond (list_any p xs) (position_from p k xs)
+      (cond (p x) (Some (k + length xs)) (let none : Option ℕ = None in none))
   position_snoc k [] x = rw add-zero refl
   position_snoc k (y ∷ ys) x = snoc_step (p y) k x ys (position_snoc (k + 1) ys x)
 
@@ -101,7 +105,8 @@ module _ {X : Type 0} (p : X → Bool) where
   position_more xs x h =
       new_case (p x) (list_any p xs) (length xs) (position_from p 0 xs) h (absent 0 xs)
       ∙ sym (position_snoc 0 xs x
-      ∙ ap (λ n. cond (list_any p xs) (position_from p 0 xs) (cond (p x) (Some n) (let none : Option ℕ = None in none))) (zero-add (length xs)))
+      ∙ ap (λ n. cond (list_any p xs) (position_from p 0 xs) (cond (p x) (Some n) (let none : Option ℕ = None in none)))
+      (zero-add (length xs)))
 
   there_step : (b : Bool) (k : ℕ) (o : Option ℕ) (a : Bool) → is_some o ≡ a → is_some (cond b (Some k) o) ≡ (b || a)
   there_step true k o a h = refl
@@ -139,4 +144,5 @@ from_is p k [] = grind arith
 from_is p k (x ∷ xs) = from_step (p x) k (position_or_len p xs) (length xs) (position_from p (k + 1) xs) (from_is p (k + 1) xs)
 
 pub position_is : {X : Type 0} (p : X → Bool) (xs : List X) → position_from p 0 xs ≡ position p xs
-position_is p xs = from_is p 0 xs ∙ ap (λ n. cond (nat_lt (position_or_len p xs) (length xs)) (Some n) None) (zero-add (position_or_len p xs))
+position_is p xs = from_is p 0 xs ∙ ap (λ n. cond (nat_lt (position_or_len p xs) (length xs)) (Some n) None)
+    (zero-add (position_or_len p xs))

@@ -88,7 +88,8 @@ pub bytes_eq_swap : (m n : List ℕ) → bytes_eq m n ≡ bytes_eq n m
 bytes_eq_swap m n = nat_list_eq_equiv.symm m n
 
 -- a name is among those of some elements
-pub among : {X : Type 0} (name : X → List ℕ) (v : List ℕ) (xs : List X) → list_any (bytes_eq v) (map name xs) ≡ list_any (λ x. bytes_eq (name x) v) xs
+pub among : {X : Type 0} (name : X → List ℕ) (v : List ℕ) (xs : List X)
+    → list_any (bytes_eq v) (map name xs) ≡ list_any (λ x. bytes_eq (name x) v) xs
 among name v [] = refl
 among name v (x ∷ xs) =
     ap (λ b. b || list_any (bytes_eq v) (map name xs)) (bytes_eq_swap v (name x)) ∙ ap (λ b. bytes_eq (name x) v || b) (among name v xs)

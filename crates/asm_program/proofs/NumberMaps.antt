@@ -79,7 +79,8 @@ get_is q [] = refl
 get_is q (e ∷ es) = λ k. cond (same_is q (name_of_pair e.0) k) (Some e.1) (get_is q es k)
 
 pub set_is : (q : ℕ × List ℕ) (es : List (Pair × ℕ)) (k : Pair) (v : ℕ)
-    → lookup (is_same q) (numbered (insert_entry by_pair es k v)) ≡ cond (is_same q (name_of_pair k)) (Some v) (lookup (is_same q) (numbered es))
+    → lookup (is_same q) (numbered (insert_entry by_pair es k v)) ≡ cond (is_same q (name_of_pair k)) (Some v)
+    (lookup (is_same q) (numbered es))
 set_is q es k v =
     sym (get_is q (insert_entry by_pair es k v))
     ∙ (insert_found q es k v

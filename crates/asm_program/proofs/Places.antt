@@ -1,5 +1,6 @@
 -- Tests of the numbered elements of a list, from the front.
-use Rattle.std.proofs.Common.{◌≡◌, ℕ, ◌+◌, ◌<◌, ◌≤◌, true, false, List, ◌∷◌, length, get_or, map, drop, Option, Some, None, Ok, Err, refl, sym, ap, ◌∙◌}
+use Rattle.std.proofs.Common.{◌≡◌, ℕ, ◌+◌, ◌<◌, ◌≤◌, true, false, List, ◌∷◌, length, get_or, map, drop, Option, Some, None, Ok, Err, refl}
+use Rattle.std.proofs.Common.{sym, ap, ◌∙◌}
 use Rattle.std.specs.Prelude.{Result, MatchOption, ⊤}
 use Rattle.std.specs.List.{enumerate_from}
 use Rattle.std.proofs.lemmas.List.{drop_more, drop_all}
@@ -14,7 +15,8 @@ fails_head : {F : Type 0} → (c : Check F) (cs : List (Check F)) → c.passes �
 fails_head c cs h = rw h refl
 
 -- an error that tells the fault that is due, if it tells one
-pub told_fault : {F : Type 0} (o : Option F) (fault : F) (due : Result ⊤ F) → MatchOption o ⊤ (λ f. f ≡ fault) → due ≡ Err fault → IsTold {T = ⊤} o due
+pub told_fault : {F : Type 0} (o : Option F) (fault : F) (due : Result ⊤ F) → MatchOption o ⊤ (λ f. f ≡ fault) → due ≡ Err fault
+    → IsTold {T = ⊤} o due
 told_fault None fault due h e = tt
 told_fault (Some f) fault due h e = e ∙ ap Err (sym h)
 

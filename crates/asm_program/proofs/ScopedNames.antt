@@ -84,7 +84,8 @@ static_step true u v b =
 static_step false u v b = ap (λ e. e && (v == u)) (and_swap b false) ∙ ap (λ e. e && b) (no_zero u)
 
 pub static_is : (u : ℕ) (n : List ℕ) (d : Declaration) → is_static_named u n d ≡ is_of (u + 1, n) d
-static_is u n d = static_step (is_static d) u d.unit (bytes_eq (name_of d) n) ∙ ap (λ b. u + 1 == scope_of d && b) (bytes_eq_swap (name_of d) n)
+static_is u n d = static_step (is_static d) u d.unit (bytes_eq (name_of d) n)
+    ∙ ap (λ b. u + 1 == scope_of d && b) (bytes_eq_swap (name_of d) n)
 
 global_step : (s : Bool) (v : ℕ) (b : Bool) → (b && not s) ≡ (0 == (if s then v + 1 else 0) && b)
 global_step true v b = and_swap b false ∙ ap (λ e. e && b) (zero_no v)

@@ -8,7 +8,8 @@ use Rattle.std.proofs.lemmas.List.Elements.{filter_agree}
 use Rattle.std.proofs.lemmas.List.Folds.{list_any-append}
 use Rattle.std.proofs.lemmas.Slice.Eq.{bytes_eq-Decides}
 use Rattle.asm_syntax.specs.declared.unit.Unit.{Unit}
-use Rattle.link_model.specs.Program.{Item, OfFunction, OfVariable, OfExternal, Declaration, name_of, is_global_definition, declarations, defines_global, is_referred, is_key}
+use Rattle.link_model.specs.Program.{Item, OfFunction, OfVariable, OfExternal, Declaration, name_of, is_global_definition, declarations}
+use Rattle.link_model.specs.Program.{defines_global, is_referred, is_key}
 use Rattle.asm_program.specs.Standing.{is_key_by, stands_by, uses_external}
 use Rattle.asm_program.proofs.NameSets.{bytes_eq_swap}
 
@@ -131,7 +132,8 @@ pub units_more : (v : List ℕ) (set others : List (List ℕ)) (units : List Uni
     → list_any (bytes_eq v) others ≡ list_any (uses_external v) (take (i + 1) units)
 units_more v set others units i u lt is so_far h =
     h ∙ ((λ k. so_far k || uses_external v (is k))
-    ∙ (or_swap (list_any (uses_external v) (take i units)) (uses_external v (get_or units i u)) ∙ sym (any_more (uses_external v) units i u lt)))
+    ∙ (or_swap (list_any (uses_external v) (take i units)) (uses_external v (get_or units i u))
+    ∙ sym (any_more (uses_external v) units i u lt)))
 
 pub referred_is : (units : List Unit) (v : List ℕ) → list_any (uses_external v) units ≡ is_referred units v
 unfolding is_referred

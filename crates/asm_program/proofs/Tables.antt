@@ -1,5 +1,6 @@
 -- A search in rows that are in the order of scopes and names.
-use Rattle.std.proofs.Common.{◌≡◌, ℕ, zero, suc, ◌+◌, ◌<◌, Bool, true, List, [], ◌∷◌, length, map, get_or, cond, refl, sym, ◌∙◌, ap, arith, Some, None}
+use Rattle.std.proofs.Common.{◌≡◌, ℕ, zero, suc, ◌+◌, ◌<◌, Bool, true, List, [], ◌∷◌, length, map, get_or, cond, refl, sym, ◌∙◌, ap, arith}
+use Rattle.std.proofs.Common.{Some, None}
 use Rattle.std.specs.Prelude.{slice_get, option_map}
 use Rattle.std.specs.Map.{lookup, keys_of}
 use Rattle.std.specs.List.{AllWithin}
@@ -83,13 +84,16 @@ rows_sorted rows sorted k d low lt =
     let long_es : length es ≡ length rows = length-map rows row_seen in
     let name : (ℕ × List ℕ) × ℕ → ℕ × List ℕ = λ e. e.0 in
     let first : get_or ks k (row_name d) ≡ row_name a =
-    get_or-map name es k (row_seen d) (row_name d) (omega (arith, long_es)) ∙ ap name (get_or-map row_seen rows k d (row_seen d) (omega arith)) in
+    get_or-map name es k (row_seen d) (row_name d) (omega (arith, long_es))
+    ∙ ap name (get_or-map row_seen rows k d (row_seen d) (omega arith)) in
     let second : get_or ks (k + 1) (row_name d) ≡ row_name b =
-    get_or-map name es (k + 1) (row_seen d) (row_name d) (omega (arith, long_es)) ∙ ap name (get_or-map row_seen rows (k + 1) d (row_seen d) (omega arith)) in
+    get_or-map name es (k + 1) (row_seen d) (row_name d) (omega (arith, long_es))
+    ∙ ap name (get_or-map row_seen rows (k + 1) d (row_seen d) (omega arith)) in
     let less : by_scope (get_or ks k (row_name d)) (get_or ks (k + 1) (row_name d)) ≡ Less =
     Less-from_sorted by_scope ks k (k + 1) (row_name d) sorted (omega arith) (omega (arith, long)) in
     let up : by_scope (row_name a) (row_name b) ≡ Less = (λ i. by_scope (sym first i) (sym second i)) ∙ less in
     ap is_lt (by_scope_total.antisymm (row_name b) (row_name a) ∙ ap ordering_reverse up)
 
-pub rows_rise : (rows : List Row) (q : ℕ × List ℕ) → AreInOrder (map row_seen rows) → IsNonDecreasingBy (λ r. ordering_index (row_order q r)) rows
+pub rows_rise : (rows : List Row) (q : ℕ × List ℕ) → AreInOrder (map row_seen rows)
+    → IsNonDecreasingBy (λ r. ordering_index (row_order q r)) rows
 rows_rise rows q sorted = searchable_from_sorted by_scope_total row_name rows q (rows_sorted rows sorted)

@@ -1,5 +1,6 @@
 -- The tests of the names that units refer to.
-use Rattle.std.proofs.Common.{◌≡◌, ℕ, ◌+◌, ◌<◌, ◌≤◌, ◌||◌, List, [], ◌∷◌, length, get_or, map, drop, Option, Some, None, Ok, refl, sym, ap, ◌∙◌}
+use Rattle.std.proofs.Common.{◌≡◌, ℕ, ◌+◌, ◌<◌, ◌≤◌, ◌||◌, List, [], ◌∷◌, length, get_or, map, drop, Option, Some, None, Ok, refl, sym, ap}
+use Rattle.std.proofs.Common.{◌∙◌}
 use Rattle.std.specs.Prelude.{⊤}
 use Rattle.std.specs.List.{list_any, flat_map, enumerate_from}
 use Rattle.std.specs.Str.{bytes_eq}
@@ -16,7 +17,8 @@ use Rattle.link_model.specs.Program.{defines, declares}
 -- the tests by a set of what the unit defines or declares
 pub tests_by_set : (u : ℕ) (unit : Unit) (set : List (List ℕ)) (names : List (List ℕ))
     → ((v : List ℕ) → list_any (bytes_eq v) set ≡ (defines unit v || declares unit v))
-    → map (λ n. check (list_any (bytes_eq n) set) (Undeclared u n)) names ≡ map (λ n. check (defines unit n || declares unit n) (Undeclared u n)) names
+    → map (λ n. check (list_any (bytes_eq n) set) (Undeclared u n)) names
+    ≡ map (λ n. check (defines unit n || declares unit n) (Undeclared u n)) names
 tests_by_set u unit set [] h = refl
 tests_by_set u unit set (n ∷ ns) h = λ k. check (h n k) (Undeclared u n) ∷ tests_by_set u unit set ns h k
 

@@ -33,7 +33,8 @@ fn has_entry(unit: &Unit, entry: &Name) -> bool
 }
 
 fn have_entry(units: &[Unit], entry: &Name) -> bool
-    ensures { result ≡ list_any (λ (unit : Unit). list_any (λ (f : Function). not f.is_static && bytes_eq f.name entry.now) unit.functions) units.now }
+    ensures { result ≡ list_any (λ (unit : Unit). list_any (λ (f : Function). not f.is_static && bytes_eq f.name entry.now) unit.functions)
+        units.now }
 {
     units.iter().any(|unit| has_entry(unit, entry))
 }

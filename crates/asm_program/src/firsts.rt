@@ -45,7 +45,9 @@ impl<'u> Firsts<'u> {
 
     /// Adds a declaration whose name is not there.
     pub fn add(&mut self, d: &Declared<'u>) -> Result<(), AllocError>
-        ensures { OnOk result ((v : List ℕ) → lookup (bytes_eq v) self.new ≡ option_or (lookup (bytes_eq v) self.old) (cond (bytes_eq v (name_of (declaration_seen d.now))) (Some (declaration_seen d.now)) None)) }
+        ensures { OnOk result
+            ((v : List ℕ) → lookup (bytes_eq v) self.new ≡ option_or (lookup (bytes_eq v) self.old)
+            (cond (bytes_eq v (name_of (declaration_seen d.now))) (Some (declaration_seen d.now)) None)) }
     {
         let name = d.name().bytes();
         if !self.kept.contains_key(&name) {

@@ -21,8 +21,10 @@ pub struct Keys<'u> {
 /// The first declaration of each key, of declarations that are keys.
 pub fn keys_of<'u>(alloc: Global, standing: &[Declared<'u>]) -> Result<Keys<'u>, AllocError>
     requires { length standing.now < 2 ^ 32 }
-    ensures list { IfOk result (λ keys. map declaration_seen keys.list.items ≡ first_of_each same_key [] (map declaration_seen standing.now)) }
-    ensures numbers { IfOk result (λ keys. (q : ℕ × List ℕ) → lookup (is_same q) keys.numbers ≡ position (is_of q) (map declaration_seen keys.list.items)) }
+    ensures list { IfOk result
+        (λ keys. map declaration_seen keys.list.items ≡ first_of_each same_key [] (map declaration_seen standing.now)) }
+    ensures numbers { IfOk result (λ keys. (q : ℕ × List ℕ)
+        → lookup (is_same q) keys.numbers ≡ position (is_of q) (map declaration_seen keys.list.items)) }
 {
     let mut list = Vec::new(alloc);
     let mut numbers = Numbers::new(alloc);

@@ -43,7 +43,9 @@ impl<'u> Numbers<'u> {
 
     /// Gives a name a number in place of the one that it has.
     pub fn set(&mut self, scope: u64, name: &'u [u8], number: u32) -> Result<(), AllocError>
-        ensures { OnOk result ((q : ℕ × List ℕ) → lookup (is_same q) self.new ≡ cond (is_same q (scope, name.now)) (Some number) (lookup (is_same q) self.old)) }
+        ensures { OnOk result
+            ((q : ℕ × List ℕ) → lookup (is_same q) self.new ≡ cond (is_same q (scope, name.now)) (Some number)
+            (lookup (is_same q) self.old)) }
     {
         self.kept.insert((scope, name), number)?;
         Ok(())

@@ -78,7 +78,8 @@ fn are_alike(rule: Rule, a: Item<'_>, b: Item<'_>) -> bool
 
 /// Whether a declaration is like the first of its name.
 fn is_like_first<'u>(rule: Rule, firsts: &Firsts<'u>, d: &Declared<'u>) -> bool
-    ensures { result ≡ option_map_or (λ (f : Declaration). alike_by rule f.item (declaration_seen d.now).item) (lookup (bytes_eq (name_of (declaration_seen d.now))) firsts.now) true }
+    ensures { result ≡ option_map_or (λ (f : Declaration). alike_by rule f.item (declaration_seen d.now).item)
+        (lookup (bytes_eq (name_of (declaration_seen d.now))) firsts.now) true }
 {
     match firsts.get(d.name().bytes()) {
         Some(first) => are_alike(rule, first.item, d.item),
@@ -129,7 +130,9 @@ fn global_among<'u>(alloc: Global, all: &[Declared<'u>]) -> Result<Vec<Declared<
 
 /// That each definition of a global name joins with those of earlier units.
 pub fn definitions_join<'u>(alloc: Global, all: &[Declared<'u>]) -> Result<(), LinkError>
-    ensures { Answers told result (all_pass (repeat_tests joins (λ d. DefinedTwice d.unit (name_of d)) (filter is_global_definition (map declaration_seen all.now)))) }
+    ensures { Answers told result
+        (all_pass (repeat_tests joins (λ d. DefinedTwice d.unit (name_of d))
+        (filter is_global_definition (map declaration_seen all.now)))) }
 {
     let list = match global_among(alloc, all) {
         Ok(list) => list,
@@ -152,7 +155,9 @@ fn externals_among<'u>(alloc: Global, all: &[Declared<'u>]) -> Result<Vec<Declar
 
 /// That each declaration of an external has the signature of those of earlier units.
 pub fn signatures_agree<'u>(alloc: Global, standing: &[Declared<'u>]) -> Result<(), LinkError>
-    ensures { Answers told result (all_pass (repeat_tests same_external (λ d. SigDiffers d.unit (name_of d)) (filter (λ d. is_external d.item) (map declaration_seen standing.now)))) }
+    ensures { Answers told result
+        (all_pass (repeat_tests same_external (λ d. SigDiffers d.unit (name_of d))
+        (filter (λ d. is_external d.item) (map declaration_seen standing.now)))) }
 {
     let list = match externals_among(alloc, standing) {
         Ok(list) => list,

@@ -18,7 +18,9 @@ use std::alloc::{AllocError, Global};
 
 /// The names of all global definitions.
 fn global_names<'u>(alloc: Global, all: &[Declared<'u>]) -> Result<Names<'u>, AllocError>
-    ensures { IfOk result (λ set. (v : List ℕ) → list_any (bytes_eq v) set ≡ list_any (λ d. is_global_definition d && bytes_eq (name_of d) v) (map declaration_seen all.now)) }
+    ensures { IfOk result
+        (λ set. (v : List ℕ) → list_any (bytes_eq v) set ≡ list_any (λ d. is_global_definition d && bytes_eq (name_of d) v)
+        (map declaration_seen all.now)) }
 {
     let mut set = Names::new(alloc);
     for d in all {
@@ -36,7 +38,11 @@ fn add_externals<'u>(
     defined: &Names<'u>,
     names: &[&'u Name],
 ) -> Result<(), AllocError>
-    ensures { OnOk result ((v : List ℕ) → list_any (bytes_eq v) referred.new ≡ (list_any (bytes_eq v) referred.old || (list_any (λ m. bytes_eq m v) (texts names.now) && list_any (bytes_eq v) declared.now && not (list_any (bytes_eq v) defined.now)))) }
+    ensures { OnOk result
+        ((v : List ℕ) → list_any (bytes_eq v) referred.new
+        ≡ (list_any (bytes_eq v) referred.old ||
+        (list_any (λ m. bytes_eq m v) (texts names.now) && list_any (bytes_eq v) declared.now
+        && not (list_any (bytes_eq v) defined.now)))) }
 {
     for name in names {
         let name = name.bytes();
@@ -49,7 +55,8 @@ fn add_externals<'u>(
 
 /// Adds the externals to which a unit refers.
 fn add_unit<'u>(alloc: Global, referred: &mut Names<'u>, unit: &'u Unit) -> Result<(), AllocError>
-    ensures { OnOk result ((v : List ℕ) → list_any (bytes_eq v) referred.new ≡ (list_any (bytes_eq v) referred.old || uses_external v unit.now)) }
+    ensures { OnOk result
+        ((v : List ℕ) → list_any (bytes_eq v) referred.new ≡ (list_any (bytes_eq v) referred.old || uses_external v unit.now)) }
 {
     let declared = declared_names(alloc, unit)?;
     let defined = defined_names(alloc, unit)?;
@@ -88,7 +95,8 @@ fn keys_among<'u>(
     defined: &Names<'u>,
     referred: &Names<'u>,
 ) -> Result<Vec<Declared<'u>>, AllocError>
-    ensures { IfOk result (λ list. map declaration_seen list.items ≡ filter (stands_by defined.now referred.now) (map declaration_seen all.now)) }
+    ensures { IfOk result
+        (λ list. map declaration_seen list.items ≡ filter (stands_by defined.now referred.now) (map declaration_seen all.now)) }
 {
     let mut list = Vec::new(alloc);
     for d in all {

@@ -10,7 +10,8 @@ use Rattle.asm_syntax.specs.declared.unit.Width.{Width}
 use Rattle.asm_syntax.specs.declared.unit.Buffer.{Buffer}
 use Rattle.asm_syntax.specs.declared.unit.Sig.{Sig}
 use Rattle.limits.specs.declared.TheConstants.{MOST_BUFFERS}
-use Rattle.asm_shapes.specs.Signatures.{argument_registers, argument_tests, buffer_fits, buffer_test, buffer_tests, is_argument_register, is_valid_sig}
+use Rattle.asm_shapes.specs.Signatures.{argument_registers, argument_tests, buffer_fits, buffer_test, buffer_tests, is_argument_register}
+use Rattle.asm_shapes.specs.Signatures.{is_valid_sig}
 use Rattle.asm_step.specs.Callable.{IsCallable}
 
 none_of : {F : Type 0} → (o : Option F) → is_none o ≡ true → o ≡ None
@@ -18,7 +19,8 @@ none_of None h = refl
 none_of (Some f) h = cc
 
 -- buffers that pass from a number on end below the limit
-few : (widths : List Width) (bs : List Buffer) (n : ℕ) → n ≤ MOST_BUFFERS → first_fault (each_check (buffer_test widths) (enumerate_from n bs)) ≡ None
+few : (widths : List Width) (bs : List Buffer) (n : ℕ) → n ≤ MOST_BUFFERS
+    → first_fault (each_check (buffer_test widths) (enumerate_from n bs)) ≡ None
     → n + length bs ≤ MOST_BUFFERS
 few widths [] n l h = omega arith
 few widths (b ∷ bs) n l h =

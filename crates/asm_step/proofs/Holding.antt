@@ -8,7 +8,8 @@ use Rattle.call_bytes.specs.Calls.{held}
 use Rattle.asm_mem.specs.declared.value.Val.{Val}
 use Rattle.asm_mem.specs.declared.value.Val.TheVariants.{Undef}
 
-pub held_at : (f : File Val) (rs : List ℕ) (n d : ℕ) → n < length rs → get Undef f (Gpr (slice_index_or rs n d)) ≡ slice_index_or (held Undef f rs) n Undef
+pub held_at : (f : File Val) (rs : List ℕ) (n d : ℕ) → n < length rs
+    → get Undef f (Gpr (slice_index_or rs n d)) ≡ slice_index_or (held Undef f rs) n Undef
 held_at f [] n d h = absurd (omega arith)
 held_at f (r ∷ rs) zero d h = refl
 held_at f (r ∷ rs) (suc n) d h = held_at f rs n d (omega arith)

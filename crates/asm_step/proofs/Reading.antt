@@ -1,5 +1,6 @@
 -- Bytes of blocks, one more at a time.
-use Rattle.std.proofs.Common.{◌≡◌, ℕ, zero, suc, ◌+◌, ◌-◌, ◌<◌, ◌≤◌, Bool, true, false, List, [], ◌∷◌, ◌++◌, length, drop, slice_index_or, Option, Some, None, refl, ap, sym, ◌∙◌, arith, if◌then◌else◌}
+use Rattle.std.proofs.Common.{◌≡◌, ℕ, zero, suc, ◌+◌, ◌-◌, ◌<◌, ◌≤◌, Bool, true, false, List, [], ◌∷◌, ◌++◌, length, drop, slice_index_or}
+use Rattle.std.proofs.Common.{Option, Some, None, refl, ap, sym, ◌∙◌, arith, if◌then◌else◌}
 use Rattle.std.specs.Prelude.{◌&&◌, ◌==◌, IsTrue, unwrap_or, nat_le, is_some, is_none, find, slice_get}
 use Rattle.std.specs.Option.{option_map_or}
 use Rattle.std.specs.List.{list_all}
@@ -75,7 +76,8 @@ pub bytes_length : (live : List Live) (b o n : ℕ) → length (bytes_at live b 
 bytes_length live b o zero = refl
 bytes_length live b o (suc n) = ap suc (bytes_length live b (o + 1) n)
 
-room_last : (ls : List (List ℕ)) (v : List ℕ) → list_all is_short ls ≡ true → length v < MOST_BUFFER_BYTES → has_room_lists (ls ++ v ∷ []) ≡ true
+room_last : (ls : List (List ℕ)) (v : List ℕ) → list_all is_short ls ≡ true → length v < MOST_BUFFER_BYTES
+    → has_room_lists (ls ++ v ∷ []) ≡ true
 room_last [] v h l = lt-ltb (length v) MOST_BUFFER_BYTES l
 room_last (x ∷ []) v h l =
     let p = and_parts (is_short x) true h in
@@ -137,7 +139,8 @@ append_none [] ys = refl
 append_none (z ∷ xs) ys = ap (λ l. z ∷ l) (append_none xs ys)
 
 module _ (live : List Live) (f : File Val) (sig : Sig) where
-  one_then : (b : Buffer) (bs : List Buffer) (ls : List (List ℕ)) → (ls ++ read_one live f sig b) ++ reads live f sig bs ≡ ls ++ reads live f sig (b ∷ bs)
+  one_then : (b : Buffer) (bs : List Buffer) (ls : List (List ℕ)) → (ls ++ read_one live f sig b) ++ reads live f sig bs ≡ ls
+      ++ reads live f sig (b ∷ bs)
   one_then b bs ls = at b.fills
     where
       at : (t : Bool)
@@ -147,7 +150,8 @@ module _ (live : List Live) (f : File Val) (sig : Sig) where
       at false = append_one ls (read_at live (buffer_at f sig b) (buffer_size f sig b)) (reads live f sig bs)
 
   reads_step : (bs : List Buffer) (i : ℕ) (d : Buffer) (ls new all : List (List ℕ)) → i < length bs
-      → new ≡ ls ++ read_one live f sig (slice_index_or bs i d) → ls ++ reads live f sig (drop i bs) ≡ all → new ++ reads live f sig (drop (i + 1) bs) ≡ all
+      → new ≡ ls ++ read_one live f sig (slice_index_or bs i d) → ls ++ reads live f sig (drop i bs) ≡ all
+      → new ++ reads live f sig (drop (i + 1) bs) ≡ all
   reads_step bs i d ls new all h e w =
       ap (λ (l : List (List ℕ)). l ++ reads live f sig (drop (i + 1) bs)) e
       ∙ one_then (slice_index_or bs i d) (drop (i + 1) bs) ls
@@ -178,7 +182,8 @@ module _ (live : List Live) (f : File Val) (sig : Sig) where
     where
       found : (k : Option Live) → is_short (option_map_or (λ (j : Live). bytes_in j o n) k []) ≡ true
       found None = refl
-      found (Some k) = let l = short_size live fills (Ptr b o) n h in le-leb (length (bytes_in k o n)) MOST_BUFFER_BYTES (omega (arith, short_in k o n))
+      found (Some k) = let l = short_size live fills (Ptr b o) n h in
+          le-leb (length (bytes_in k o n)) MOST_BUFFER_BYTES (omega (arith, short_in k o n))
   short_read _ _ fills h = refl
 
   all_append : (ls ms : List (List ℕ)) → list_all is_short ls ≡ true → list_all is_short ms ≡ true → list_all is_short (ls ++ ms) ≡ true
@@ -191,7 +196,8 @@ module _ (live : List Live) (f : File Val) (sig : Sig) where
       → list_all is_short (ls ++ read_one live f sig b) ≡ true
   still_short b ls h a = all_append ls (read_one live f sig b) a (one b.fills refl)
     where
-      one : (t : Bool) → b.fills ≡ t → list_all is_short (if t then [] else read_at live (buffer_at f sig b) (buffer_size f sig b) ∷ []) ≡ true
+      one : (t : Bool) → b.fills ≡ t → list_all is_short (if t then [] else read_at live (buffer_at f sig b) (buffer_size f sig b) ∷ [])
+          ≡ true
       one true e = refl
       one false e = rw (short_read (buffer_at f sig b) (buffer_size f sig b) b.fills h) refl
 

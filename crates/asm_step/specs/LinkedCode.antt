@@ -1,5 +1,6 @@
 -- What the assembly machine reads of a linked program.
-use Rattle.std.specs.Prelude.{ℕ, Bool, true, false, ◌&&◌, ◌==◌, List, slice_get, slice_index_or, Option, is_some, unwrap_or, option_and_then}
+use Rattle.std.specs.Prelude.{ℕ, Bool, true, false, ◌&&◌, ◌==◌, List, slice_get, slice_index_or, Option, is_some, unwrap_or}
+use Rattle.std.specs.Prelude.{option_and_then}
 use Rattle.std.specs.Option.{option_map_or}
 use Rattle.asm_syntax.specs.declared.instr.Instr.{Instr}
 use Rattle.asm_syntax.specs.declared.unit.Sig.{Sig}

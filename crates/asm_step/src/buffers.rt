@@ -1,6 +1,7 @@
 //! The arguments and the buffers of a call.
 
-ghost use Rattle.std.specs.Prelude.{◌≡◌, ◌≤◌, ◌<◌, ◌+◌, Some, ◌++◌, ◌∷◌, ◌==◌, if◌then◌else◌, ℕ, true, false, Bool, [], map, take, length, find, slice_index_or, unwrap_or};
+ghost use Rattle.std.specs.Prelude.{◌≡◌, ◌≤◌, ◌<◌, ◌+◌, Some, ◌++◌, ◌∷◌, ◌==◌, if◌then◌else◌, ℕ, true, false, Bool, [], map, take, length};
+ghost use Rattle.std.specs.Prelude.{find, slice_index_or, unwrap_or};
 ghost use Rattle.std.specs.List.{list_all};
 ghost use Rattle.std.specs.Option.{option_map_or};
 ghost use Rattle.effect_model.specs.declared.Place.TheVariants.{Gpr};
@@ -10,7 +11,8 @@ ghost use Rattle.call_bytes.specs.Calls.{held, register_at, size_of};
 ghost use Rattle.asm_mem.specs.declared.value.Val.TheVariants.{Int, Undef};
 ghost use Rattle.asm_mem.specs.declared.cell.Cell.TheVariants.{Byte};
 ghost use Rattle.asm_mem.specs.Blocks.{byte_at, has, set_cells, update, with_byte};
-ghost use Rattle.asm_step.specs.Calls.{buffer_at, buffer_fits, buffer_size, fill_at, filled, fits_size, has_room, is_argument, is_room, read_at, reads, result_value};
+ghost use Rattle.asm_step.specs.Calls.{buffer_at, buffer_fits, buffer_size, fill_at, filled, fits_size, has_room, is_argument, is_room};
+ghost use Rattle.asm_step.specs.Calls.{read_at, reads, result_value};
 ghost use Rattle.asm_step.specs.Answers.{event_of};
 ghost use Rattle.asm_step.specs.Bytes.{are_bytes_at, bytes_at, is_short, read_one};
 

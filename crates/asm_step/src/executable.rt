@@ -1,6 +1,7 @@
 //! What the machine reads of a linked program.
 
-ghost use Rattle.std.specs.Prelude.{◌≡◌, ◌≤◌, ◌<◌, ◌+◌, ◌++◌, ◌∷◌, [], true, length, slice_get, slice_index_or, unwrap_or, IfOk, IfSome, IsSome, OnOk, OnErr};
+ghost use Rattle.std.specs.Prelude.{◌≡◌, ◌≤◌, ◌<◌, ◌+◌, ◌++◌, ◌∷◌, [], true, length, slice_get, slice_index_or, unwrap_or, IfOk, IfSome};
+ghost use Rattle.std.specs.Prelude.{IsSome, OnOk, OnErr};
 ghost use Rattle.std.specs.Option.{option_copied};
 ghost use Rattle.asm_syntax.specs.Instructions.{label_place};
 ghost use Rattle.call_bytes.specs.Calls.{registers_of_arguments};
@@ -150,7 +151,12 @@ impl<'u> Executable<'u> {
         callees: Vec<Option<Callee<'u>>>,
         variables: u32,
     ) -> Executable<'u>
-        ensures { result ≡ record { routines = routines.entry.items; kinds = kinds.items; sigs = callees.entry.items; variables = variables } }
+        ensures { result ≡ record {
+          routines = routines.entry.items;
+          kinds = kinds.items;
+          sigs = callees.entry.items;
+          variables = variables;
+        } }
     {
         Executable {
             routines,

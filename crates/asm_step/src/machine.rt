@@ -17,7 +17,8 @@ ghost use Rattle.asm_step.specs.LinkedCode.{instruction};
 ghost use Rattle.asm_mem.specs.Blocks.{load, newest, room, total, total_from};
 ghost use Rattle.asm_step.specs.Jumps.{at_label, branched, counts, jump, jumped, linked, tabled};
 ghost use Rattle.asm_step.specs.State.{Went, gone};
-ghost use Rattle.asm_step.specs.Steps.{act, asm_step, at_code, divided, finish, frame_comes, loaded, makes_frame, performed, jumps_by, stored};
+ghost use Rattle.asm_step.specs.Steps.{act, asm_step, at_code, divided, finish, frame_comes, loaded, makes_frame, performed, jumps_by};
+ghost use Rattle.asm_step.specs.Steps.{stored};
 ghost use Rattle.asm_values.specs.Files.{asm_divided, value_read};
 ghost use Rattle.asm_values.specs.Operands.{sum_args};
 
@@ -154,7 +155,8 @@ impl Machine {
     /// To a label, or else to the next instruction.
     fn choose(&mut self, p: &Executable, f: u32, i: u32, label: u32, taken: bool) -> Asm
         requires { i < MOST_INSTRUCTIONS }
-        ensures { Acts (Went (record self.old { place = if taken then at_label p.now f label else Code f (suc i) })) result self.old self.new }
+        ensures { Acts (Went (record self.old { place = if taken then at_label p.now f label else Code f (suc i) }))
+            result self.old self.new }
     {
         if taken {
             self.place = Val::Code(f, p.place_of_label(f, label));

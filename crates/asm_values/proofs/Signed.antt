@@ -12,7 +12,8 @@ block_some : (k : Live) (o : ℕ) (v : Val) → read_block k 2 o ≡ Some v → 
 block_some k o v h = at (may_read k 2 o) refl
   where
     at : (t : Bool) → may_read k 2 o ≡ t → read_by SignedHalf o k ≡ Some (changed sext16 v)
-    at true e = let q : Some (value_at k 2 o) ≡ Some v = rw e at h in let r : value_at k 2 o ≡ v = cc in rw e (ap (λ (u : Val). Some (changed sext16 u)) r)
+    at true e = let q : Some (value_at k 2 o) ≡ Some v = rw e at h in
+        let r : value_at k 2 o ≡ v = cc in rw e (ap (λ (u : Val). Some (changed sext16 u)) r)
     at false e = let q : None ≡ Some v = rw e at h in cc
 
 block_none : (k : Live) (o : ℕ) → read_block k 2 o ≡ None → read_by SignedHalf o k ≡ None

@@ -1,5 +1,6 @@
 -- The word law, by the forms of actions and then by the classes of instructions.
-use Rattle.std.proofs.Common.{◌≡◌, ℕ, zero, suc, ◌+◌, ◌*◌, ◌<◌, Bool, true, false, ◌&&◌, List, [], ◌∷◌, length, map, slice_index_or, slice_set, Some, refl, ap, sym, ◌∙◌, subst, arith, if◌then◌else◌}
+use Rattle.std.proofs.Common.{◌≡◌, ℕ, zero, suc, ◌+◌, ◌*◌, ◌<◌, Bool, true, false, ◌&&◌, List, [], ◌∷◌, length, map, slice_index_or}
+use Rattle.std.proofs.Common.{slice_set, Some, refl, ap, sym, ◌∙◌, subst, arith, if◌then◌else◌}
 use Rattle.std.specs.Prelude.{◌%◌, ◌^◌, is_some, ◌==◌, nat_lt, bit_xor}
 use Rattle.std.specs.Int.{cast_unsigned, w32}
 use Rattle.std.specs.Int.Bits.{or_self, xor_self}
@@ -7,8 +8,10 @@ use Rattle.std.proofs.lemmas.Bool.{and_parts, eqb-true, ltb-true}
 use Rattle.isa_model.specs.Word.{wrapped}
 use Rattle.isa_model.specs.Instructions.{addi_place, addis_place, or_place, and_dot_place}
 use Rattle.asm_syntax.specs.declared.instr.Plain.{Plain}
-use Rattle.asm_syntax.specs.declared.instr.Plain.TheVariants.{AluImm, LogImm, Alu, Alu2, Log, Log2, Srawi, Rot, Load, LoadX, Store, StoreX, Cmp, CmpImm, CrBit, Move, Bar, Jump}
-use Rattle.asm_syntax.specs.Places.{alu2_place, alu_imm_place, alu_place, cmp_imm_place, cmp_place, cr_bit_place, log2_place, log_imm_place, log_place, move_place, rot_place}
+use Rattle.asm_syntax.specs.declared.instr.Plain.TheVariants.{AluImm, LogImm, Alu, Alu2, Log, Log2, Srawi, Rot, Load, LoadX, Store, StoreX}
+use Rattle.asm_syntax.specs.declared.instr.Plain.TheVariants.{Cmp, CmpImm, CrBit, Move, Bar, Jump}
+use Rattle.asm_syntax.specs.Places.{alu2_place, alu_imm_place, alu_place, cmp_imm_place, cmp_place, cr_bit_place, log2_place, log_imm_place}
+use Rattle.asm_syntax.specs.Places.{log_place, move_place, rot_place}
 use Rattle.effect_model.specs.declared.Place.{Place}
 use Rattle.effect_model.specs.declared.Place.TheVariants.{Gpr, Bit, Lr, Ctr, Ca, So, Unused}
 use Rattle.effect_model.specs.declared.Operand.{Operand}
@@ -22,7 +25,9 @@ use Rattle.effect_model.specs.declared.Action.{Action}
 use Rattle.effect_model.specs.declared.Action.TheVariants.{Work, Divide}
 use Rattle.effect_model.specs.Meaning.{results}
 use Rattle.effect_model.specs.Files.{File, get, put, word_read, flat_effect}
-use Rattle.effect_model.specs.Rows.{base, plain, shifted, register, simple, carried, effect, moved, compared, summary, recorded, copy_row, alu_imm_rows, log_imm_ops, alu_rows, alu2_rows, log_rows, log2_rows, cmp_ops, cr_bit_rows, alu_imm, log_imm, alu, log, rot, cr_bit, move}
+use Rattle.effect_model.specs.Rows.{base, plain, shifted, register, simple, carried, effect, moved, compared, summary, recorded, copy_row}
+use Rattle.effect_model.specs.Rows.{alu_imm_rows, log_imm_ops, alu_rows, alu2_rows, log_rows, log2_rows, cmp_ops, cr_bit_rows, alu_imm}
+use Rattle.effect_model.specs.Rows.{log_imm, alu, log, rot, cr_bit, move}
 use Rattle.link_model.specs.declared.key.KeyKind.{KeyKind}
 use Rattle.asm_mem.specs.declared.value.Val.{Val}
 use Rattle.asm_mem.specs.declared.value.Val.TheVariants.{Undef, Int, Ptr, Code, Ext, Stop, Ha}
@@ -60,7 +65,8 @@ place_word f So = refl
 place_word f Unused = refl
 
 -- an operand that is a word is the word of the registers' words
-pub read_word : (f : File Val) (o : Operand) → is_some (word_in (value_read f o)) ≡ true → value_read f o ≡ Known (Int (word_read (words_of f) o))
+pub read_word : (f : File Val) (o : Operand) → is_some (word_in (value_read f o)) ≡ true
+    → value_read f o ≡ Known (Int (word_read (words_of f) o))
 read_word f (operand.At p) h = word_is (get Undef f p) h ∙ ap (λ (n : ℕ). Known (Int n)) (sym (place_word f p))
 read_word f (operand.Number n) h = refl
 read_word f (operand.Lo k o) h = cc
@@ -77,12 +83,14 @@ results_words kinds live o x y z a b c p q r = rw (p, q, r) refl
 
 -- an effect whose operands are words of g puts the words that it has on g
 pub effect_words : (kinds : List KeyKind) (live : List Live) (e : Effect) (f : File Val) (g : File ℕ)
-    → value_read f e.x ≡ Known (Int (word_read g e.x)) → value_read f e.y ≡ Known (Int (word_read g e.y)) → value_read f e.z ≡ Known (Int (word_read g e.z))
+    → value_read f e.x ≡ Known (Int (word_read g e.x)) → value_read f e.y ≡ Known (Int (word_read g e.y))
+    → value_read f e.z ≡ Known (Int (word_read g e.z))
     → asm_effect kinds live e f ≡ with_words e g f
 unfolding asm_effect
 effect_words kinds live e f g p q r =
     ap (λ v. put (put (put f e.first v.first) e.second v.second) e.third v.third)
-    (results_words kinds live e.op (value_read f e.x) (value_read f e.y) (value_read f e.z) (word_read g e.x) (word_read g e.y) (word_read g e.z) p q r)
+    (results_words kinds live e.op (value_read f e.x) (value_read f e.y) (value_read f e.z) (word_read g e.x) (word_read g e.y)
+    (word_read g e.z) p q r)
 
 -- what an effect reads
 record Reads (e : Effect) (f : File Val) : Type 0 where
@@ -122,7 +130,8 @@ divide_law e kinds live f is h n =
     let y : word_in (value_read f e.y) ≡ Some (word_read g e.y) = ap word_in r.y in
     rw (x, y, n) (ap Some (first_words kinds live e f h))
 
-compare_law : (o : Op) (x y : Operand) (n : ℕ) → WordLaw (Work (Two (compared o x y n) (summary n))) (Work (Two (compared o x y n) (summary n)))
+compare_law : (o : Op) (x y : Operand) (n : ℕ)
+    → WordLaw (Work (Two (compared o x y n) (summary n))) (Work (Two (compared o x y n) (summary n)))
 compare_law o x y n kinds live f is h t =
     let e = compared o x y n in
     let f1 = with_words e (words_of f) f in
@@ -139,10 +148,12 @@ length_words (x ∷ xs) = ap suc (length_words xs)
 
 -- a result in a general register, on words
 flat_result : (o : Op) (x y : Operand) (a : ℕ) (f : File Val) → IsFile f → a < 32
-    → word_read (flat_effect (effect (simple o) x y (Gpr a)) (words_of f)) (register a) ≡ (results o (word_read (words_of f) x) (word_read (words_of f) y) 0).first
+    → word_read (flat_effect (effect (simple o) x y (Gpr a)) (words_of f)) (register a)
+    ≡ (results o (word_read (words_of f) x) (word_read (words_of f) y) 0).first
 unfolding flat_effect
 flat_result o x y a f is h =
-    set_index (map word_or_zero f.gprs) a (results o (word_read (words_of f) x) (word_read (words_of f) y) 0).first 0 (omega (arith, is.gprs, length_words f.gprs))
+    set_index (map word_or_zero f.gprs) a (results o (word_read (words_of f) x) (word_read (words_of f) y) 0).first 0
+    (omega (arith, is.gprs, length_words f.gprs))
 
 recorded_law : (o : Op) (x y : Operand) (a : ℕ) → a < 32
     → WordLaw (Work (recorded (effect (simple o) x y (Gpr a)) (Gpr a))) (Work (recorded (effect (simple o) x y (Gpr a)) (Gpr a)))
@@ -154,7 +165,8 @@ recorded_law o x y a small kinds live f is h t =
     let g1 = flat_effect e g in
     let r = (results o (word_read g x) (word_read g y) 0).first in
     let value : value_read f1 (register a) ≡ Known (Int (word_read g1 (register a))) =
-    ap Known (set_index f.gprs a (Int r) Undef (omega (arith, is.gprs))) ∙ ap (λ (n : ℕ). Known (Int n)) (sym (flat_result o x y a f is small)) in
+    ap Known (set_index f.gprs a (Int r) Undef (omega (arith, is.gprs)))
+    ∙ ap (λ (n : ℕ). Known (Int n)) (sym (flat_result o x y a f is small)) in
     let first = first_words kinds live e f h in
     let second : asm_effect kinds live d f1 ≡ with_words d g1 f1 = effect_words kinds live d f1 g1 value refl refl in
     ap Some
@@ -194,7 +206,8 @@ log_law k a s b small = at (k == and_dot_place) refl
   where
     at : (t : Bool) → (k == and_dot_place) ≡ t → WordLaw (log k a s b) (log k a s b)
     at true h =
-        subst (λ z. WordLaw (log z a s b) (log z a s b)) (sym (eqb-true k and_dot_place h)) (recorded_law op.And (register s) (register b) a small)
+        subst (λ z. WordLaw (log z a s b) (log z a s b)) (sym (eqb-true k and_dot_place h))
+        (recorded_law op.And (register s) (register b) a small)
     at false h = rw h (one_law (effect (slice_index_or log_rows k copy_row) (register s) (register b) (Gpr a)))
 
 -- `or` of a word with itself is the word
@@ -244,7 +257,8 @@ value_cr_bit_law k t a b = at (a == b && nat_lt k 2) refl
     at : (u : Bool) → (a == b && nat_lt k 2) ≡ u → WordLaw (cr_bit k t a b) (value_cr_bit k t a b)
     at true h =
         let p = and_parts (a == b) (nat_lt k 2) h in
-        rw h (subst (λ z. WordLaw (cr_bit k t a z) (Work (One (moved (operand.Number k) (Bit t))))) (eqb-true a b p.0) (constant_law k t a (ltb-true k 2 p.1)))
+        rw h (subst (λ z. WordLaw (cr_bit k t a z) (Work (One (moved (operand.Number k) (Bit t))))) (eqb-true a b p.0)
+        (constant_law k t a (ltb-true k 2 p.1)))
     at false h = rw h (cr_bit_law k t a b)
 
 rot_law : (k a s sh mb me : ℕ) → WordLaw (rot k a s sh mb me) (rot k a s sh mb me)
@@ -276,7 +290,8 @@ word_law (Log2 o a s) key w = one_law (effect (slice_index_or log2_rows (log2_pl
 word_law (Srawi a s n) key w = one_law (effect (carried op.ShiftRightSigned (operand.Number 0)) (register s) (operand.Number n) (Gpr a))
 word_law (Rot o a s sh mb me) key w = rot_law (rot_place o) a s sh mb me
 word_law (Cmp o f a b) key w = compare_law (slice_index_or cmp_ops (cmp_place o) op.Copy) (register a) (register b) f
-word_law (CmpImm o f a n) key w = compare_law (slice_index_or cmp_ops (cmp_imm_place o) op.Copy) (register a) (operand.Number (cast_unsigned w32 n)) f
+word_law (CmpImm o f a n) key w = compare_law (slice_index_or cmp_ops (cmp_imm_place o) op.Copy) (register a)
+    (operand.Number (cast_unsigned w32 n)) f
 word_law (CrBit o t a b) key w = value_cr_bit_law (cr_bit_place o) t a b
 word_law (Move o r) key w = move_law (move_place o) r
 word_law (Bar o) key w = nothing_law

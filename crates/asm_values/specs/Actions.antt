@@ -5,8 +5,10 @@ use Rattle.isa_model.specs.Instructions.{or_place}
 use Rattle.asm_syntax.specs.declared.instr.Const.{Const}
 use Rattle.asm_syntax.specs.declared.instr.Const.TheVariants as const
 use Rattle.asm_syntax.specs.declared.instr.Plain.{Plain}
-use Rattle.asm_syntax.specs.declared.instr.Plain.TheVariants.{AluImm, LogImm, Alu, Alu2, Log, Log2, Srawi, Rot, Load, LoadX, Store, StoreX, Cmp, CmpImm, CrBit, Move, Bar, Jump}
-use Rattle.asm_syntax.specs.Places.{alu2_place, alu_imm_place, alu_place, cmp_imm_place, cmp_place, cr_bit_place, load_place, load_x_place, log2_place, log_imm_place, log_place, move_place, rot_place, store_place, store_x_place}
+use Rattle.asm_syntax.specs.declared.instr.Plain.TheVariants.{AluImm, LogImm, Alu, Alu2, Log, Log2, Srawi, Rot, Load, LoadX, Store, StoreX}
+use Rattle.asm_syntax.specs.declared.instr.Plain.TheVariants.{Cmp, CmpImm, CrBit, Move, Bar, Jump}
+use Rattle.asm_syntax.specs.Places.{alu2_place, alu_imm_place, alu_place, cmp_imm_place, cmp_place, cr_bit_place, load_place, load_x_place}
+use Rattle.asm_syntax.specs.Places.{log2_place, log_imm_place, log_place, move_place, rot_place, store_place, store_x_place}
 use Rattle.effect_model.specs.declared.Constant.{Constant}
 use Rattle.effect_model.specs.declared.Constant.TheVariants as constant
 use Rattle.effect_model.specs.declared.Operand.TheVariants.{Number}
@@ -14,7 +16,8 @@ use Rattle.effect_model.specs.declared.Place.TheVariants.{Gpr, Bit}
 use Rattle.effect_model.specs.declared.Effects.TheVariants.{Nothing, One}
 use Rattle.effect_model.specs.declared.Action.{Action}
 use Rattle.effect_model.specs.declared.Action.TheVariants as does
-use Rattle.effect_model.specs.Rows.{register, moved, alu_imm, log_imm, alu, alu2, log, log2, srawi, rot, load, store, load_x, store_x, cmp, cr_bit, move}
+use Rattle.effect_model.specs.Rows.{register, moved, alu_imm, log_imm, alu, alu2, log, log2, srawi, rot, load, store, load_x, store_x, cmp}
+use Rattle.effect_model.specs.Rows.{cr_bit, move}
 
 abbrev pub constant_of : Const → ℕ → Constant
 constant_of (const.Int n) key = constant.Int n

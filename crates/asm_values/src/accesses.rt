@@ -39,7 +39,10 @@ pub fn load(blocks: &Blocks, form: Form, at: Val) -> Option<Val>
 /// Stores a value. False where the access is undefined, and then nothing changes.
 pub fn store(blocks: &mut Blocks, form: Form, at: Val, v: Val) -> bool
     ensures answer { result ≡ may_store_by blocks.old.live form at }
-    ensures after { blocks.new ≡ record blocks.old { live = if may_store_by blocks.old.live form at then stored_by blocks.old.live form at v else blocks.old.live } }
+    ensures after { blocks.new ≡ record blocks.old {
+      live = if may_store_by blocks.old.live form at
+          then stored_by blocks.old.live form at v else blocks.old.live;
+    } }
 {
     match form {
         Form::Word => blocks.store(4, at, v),

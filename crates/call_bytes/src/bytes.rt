@@ -25,7 +25,8 @@ impl Model for CallBytes {
 
     ghost view = { λ c. cut (take c.count c.lengths) c.kept.items };
 
-    ghost invariant = { λ c. (length c.kept.items ≡ MOST_CALL_BYTES) × (c.count ≤ MOST_BUFFERS) × (c.used ≤ MOST_CALL_BYTES) × (length c.lengths ≡ MOST_BUFFERS) × (total (take c.count c.lengths) ≡ c.used) };
+    ghost invariant = { λ c. (length c.kept.items ≡ MOST_CALL_BYTES) × (c.count ≤ MOST_BUFFERS) × (c.used ≤ MOST_CALL_BYTES)
+        × (length c.lengths ≡ MOST_BUFFERS) × (total (take c.count c.lengths) ≡ c.used) };
 }
 
 /// The list with this number, of those that are kept one behind another.

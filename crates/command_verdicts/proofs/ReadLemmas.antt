@@ -1,5 +1,6 @@
 -- Files that are read one after another.
-use Rattle.std.proofs.Common.{◌≡◌, ℕ, zero, suc, ◌+◌, List, [], ◌∷◌, ◌++◌, length, map, take, Some, Option, arith, refl, sym, ap, ◌∙◌, subst}
+use Rattle.std.proofs.Common.{◌≡◌, ℕ, zero, suc, ◌+◌, List, [], ◌∷◌, ◌++◌, length, map, take, Some, Option, arith, refl, sym, ap, ◌∙◌}
+use Rattle.std.proofs.Common.{subst}
 use Rattle.std.specs.Prelude.{slice_get, Vec}
 use Rattle.std.specs.Global.{Global}
 use Rattle.std.proofs.lemmas.List.{map-append}
@@ -8,7 +9,7 @@ use Rattle.outside.specs.Store.{Files}
 use Rattle.commands.specs.Files.{dump_bytes, dumps_sum}
 use Rattle.commands.specs.Reads.{IsRead, EachRead}
 use Rattle.commands.specs.declared.file.CommandFile.{CommandFile}
-use Rattle.command_verdicts.specs.Contents.{contents_of}
+use Rattle.simulation.specs.Judged as judged
 
 each_one : (holds : Option Files) (words : List (List ℕ)) (fs : List CommandFile) (cs : List (List ℕ)) (f : CommandFile) (b : List ℕ)
     → EachRead holds words fs cs → IsRead holds words f b → EachRead holds words (fs ++ f ∷ []) (cs ++ b ∷ [])
@@ -24,34 +25,36 @@ sum_one holds words [] (c ∷ cs) f b h = absurd h
 sum_one holds words (g ∷ fs) [] f b h = absurd h
 sum_one holds words (g ∷ fs) (c ∷ cs) f b h = let rest = sum_one holds words fs cs f b h.1 in omega arith
 
-contents_one : (vs : List (Vec ℕ Global)) (v : Vec ℕ Global) → contents_of (vs ++ v ∷ []) ≡ contents_of vs ++ v.items ∷ []
+contents_one : (vs : List (Vec ℕ Global)) (v : Vec ℕ Global) → judged.contents (vs ++ v ∷ []) ≡ judged.contents vs ++ v.items ∷ []
 contents_one vs v = map-append (λ (x : Vec ℕ Global). x.items) vs (v ∷ [])
 
 -- one more file of a list was read
 pub each_more : (holds : Option Files) (words : List (List ℕ)) (fs : List CommandFile) (i : ℕ) (vs : List (Vec ℕ Global)) (f : CommandFile)
-    (v : Vec ℕ Global) → slice_get fs i ≡ Some f → EachRead holds words (take i fs) (contents_of vs) → IsRead holds words f v.items
-    → EachRead holds words (take (i + 1) fs) (contents_of (vs ++ v ∷ []))
+    (v : Vec ℕ Global) → slice_get fs i ≡ Some f → EachRead holds words (take i fs) (judged.contents vs) → IsRead holds words f v.items
+    → EachRead holds words (take (i + 1) fs) (judged.contents (vs ++ v ∷ []))
 each_more holds words fs i vs f v here h r =
     subst (λ cs. EachRead holds words (take (i + 1) fs) cs) (sym (contents_one vs v))
-    (subst (λ gs. EachRead holds words gs (contents_of vs ++ v.items ∷ [])) (sym (take_one fs i f here))
-    (each_one holds words (take i fs) (contents_of vs) f v.items h r))
+    (subst (λ gs. EachRead holds words gs (judged.contents vs ++ v.items ∷ [])) (sym (take_one fs i f here))
+    (each_one holds words (take i fs) (judged.contents vs) f v.items h r))
 
 pub sum_more : (holds : Option Files) (words : List (List ℕ)) (fs : List CommandFile) (i : ℕ) (vs : List (Vec ℕ Global)) (f : CommandFile)
-    (v : Vec ℕ Global) → slice_get fs i ≡ Some f → EachRead holds words (take i fs) (contents_of vs)
-    → dumps_sum (take (i + 1) fs) (contents_of (vs ++ v ∷ [])) ≡ dumps_sum (take i fs) (contents_of vs) + dump_bytes f.kind (length v.items)
+    (v : Vec ℕ Global) → slice_get fs i ≡ Some f → EachRead holds words (take i fs) (judged.contents vs)
+    → dumps_sum (take (i + 1) fs) (judged.contents (vs ++ v ∷ [])) ≡ dumps_sum (take i fs) (judged.contents vs)
+    + dump_bytes f.kind (length v.items)
 sum_more holds words fs i vs f v here h =
-    ap (λ gs. dumps_sum gs (contents_of (vs ++ v ∷ []))) (take_one fs i f here)
+    ap (λ gs. dumps_sum gs (judged.contents (vs ++ v ∷ []))) (take_one fs i f here)
     ∙ ap (λ cs. dumps_sum (take i fs ++ f ∷ []) cs) (contents_one vs v)
-    ∙ sum_one holds words (take i fs) (contents_of vs) f v.items h
+    ∙ sum_one holds words (take i fs) (judged.contents vs) f v.items h
 
 -- as many contents as files
-pub length-contents : (holds : Option Files) (words : List (List ℕ)) (fs : List CommandFile) (cs : List (List ℕ)) → EachRead holds words fs cs
+pub length-contents : (holds : Option Files) (words : List (List ℕ)) (fs : List CommandFile) (cs : List (List ℕ))
+    → EachRead holds words fs cs
     → length cs ≡ length fs
 length-contents holds words [] [] h = refl
 length-contents holds words [] (c ∷ cs) h = absurd h
 length-contents holds words (g ∷ fs) [] h = absurd h
 length-contents holds words (g ∷ fs) (c ∷ cs) h = ap suc (length-contents holds words fs cs h.1)
 
-pub length-contents_of : (vs : List (Vec ℕ Global)) → length (contents_of vs) ≡ length vs
-length-contents_of [] = refl
-length-contents_of (v ∷ vs) = ap suc (length-contents_of vs)
+pub length-items : (vs : List (Vec ℕ Global)) → length (judged.contents vs) ≡ length vs
+length-items [] = refl
+length-items (v ∷ vs) = ap suc (length-items vs)

@@ -7,7 +7,7 @@ use Rattle.commands.specs.Files.{dump_bytes, dumps_sum}
 use Rattle.commands.specs.Reads.{AreRead, IsRead}
 use Rattle.commands.specs.declared.file.CommandFile.{CommandFile}
 use Rattle.report_text.specs.declared.verdict.Verdict.{Verdict}
-use Rattle.report_text.specs.declared.verdict.Verdict.TheVariants.{Usage, Unread, TooLong, PastTotal, Refused, No, Yes, Done}
+use Rattle.report_text.specs.declared.verdict.Verdict.TheVariants.{Usage, Unread, TooLong, PastTotal, Refused, No, Yes, Done, Differs}
 use Rattle.command_verdicts.specs.Stores.{StoreChange}
 use Rattle.command_verdicts.specs.Stops.{IsNext, IsNotRead, Stopped, StopsBy}
 use Rattle.command_verdicts.specs.declared.stop.Stop.{Stop}
@@ -23,6 +23,7 @@ stopped_by s words fs f next (Refused place r) h = absurd h
 stopped_by s words fs f next (No fault) h = absurd h
 stopped_by s words fs f next (Yes a) h = absurd h
 stopped_by s words fs f next (Done text) h = absurd h
+stopped_by s words fs f next (Differs text) h = absurd h
 
 stops_by : (s : StoreChange) (words : List (List ℕ)) (fs : List CommandFile) (f : CommandFile) → IsNext s words fs f → (stop : Stop)
     → StopsBy (IsNotRead s words f) stop → StopsBy (Stopped s words fs) stop

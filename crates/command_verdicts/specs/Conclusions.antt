@@ -14,14 +14,16 @@ use Rattle.judge_model.specs.declared.refusal.Refusal.{Refusal}
 use Rattle.judge_model.specs.declared.refusal.Refusal.TheVariants.{Layout, Image, Unit, Replies, Link, Entry}
 use Rattle.judge_model.specs.Judge.{IsAccount, IsFirstFault, IsFirstRefusal}
 use Rattle.coverage.specs.Accounts.{account_seen}
+use Rattle.simulation.specs.Judged.{IsFaithful}
 use Rattle.commands.specs.declared.command.Command.{Command}
-use Rattle.commands.specs.declared.command.Command.TheVariants.{Check, Show, Upgrade}
+use Rattle.commands.specs.declared.command.Command.TheVariants.{Check, Run, Show, Upgrade}
+use Rattle.run_verdicts.specs.Runs.{Runs}
 use Rattle.report_text.specs.declared.verdict.Verdict.{Verdict}
 use Rattle.report_text.specs.declared.verdict.Verdict.TheVariants.{TooLong, Refused, No, Yes, Done}
 
 -- ---- check
 
--- the place among the words of the file that a refusal is of; replies are not read
+-- the place among the words of the file that a refusal is of; a check reads no replies
 abbrev pub refused_place : Refusal → ℕ
 refused_place (Layout e) = 1
 refused_place (Image e) = 2
@@ -30,9 +32,10 @@ refused_place (Replies e) = 0
 refused_place (Link u name e) = u + 3
 refused_place (Entry name) = 1
 
--- the account of an image that matches, the first place that fails, or the first thing that is refused
+-- the account of an image that matches, which does what its assembly does; the first place that fails; or the first thing that is
+-- refused
 abbrev pub Checks : List ℕ → List ℕ → List (List ℕ) → Verdict → Type 0
-Checks layout image units (Yes a) = IsAccount layout image units (account_seen a)
+Checks layout image units (Yes a) = IsAccount layout image units (account_seen a) × IsFaithful layout image units
 Checks layout image units (No f) = AreBytes image × IsFirstFault layout image units f
 Checks layout image units (Refused place r) = (place ≡ refused_place r) × IsFirstRefusal layout image units r
 Checks layout image units _ = ⊥
@@ -66,6 +69,7 @@ Upgrades unit _ = ⊥
 -- by the contents of the files in their order
 abbrev pub Concludes : Command → List (List ℕ) → Verdict → Type 0
 Concludes (Check n) (layout ∷ image ∷ units) v = Checks layout image units v
+Concludes (Run steps n) (layout ∷ image ∷ replies ∷ units) v = Runs layout image replies steps units v
 Concludes (Show a n) (image ∷ []) v = Shows a n image v
 Concludes Upgrade (unit ∷ []) v = Upgrades unit v
 Concludes _ _ v = ⊥

@@ -1,5 +1,5 @@
-pub mod Contents
 pub mod Stores
 pub mod Stops
 pub mod Conclusions
+pub mod Limits
 pub mod Decided

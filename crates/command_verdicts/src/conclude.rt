@@ -3,7 +3,7 @@
 ghost use Rattle.std.specs.Prelude.{◌≡◌, ◌≤◌, IfOk, length};
 ghost use Rattle.limits.specs.declared.TheConstants.{MOST_UNITS};
 ghost use Rattle.command_verdicts.specs.Conclusions.{Checks, Shows, Upgrades, refused_place};
-ghost use Rattle.command_verdicts.specs.Contents.{contents_of};
+ghost use Rattle.simulation.specs.Judged as judged;
 
 use asm_syntax::listed::Listed;
 use dump_reader::{DumpError, read_unit};
@@ -39,7 +39,7 @@ pub fn checked(
     units: &[Vec<u8>],
 ) -> Result<Verdict, AllocError>
     requires { length units.now ≤ MOST_UNITS }
-    ensures { IfOk result (Checks layout.now image.now (contents_of units.now)) }
+    ensures { IfOk result (Checks layout.now image.now (judged.contents units.now)) }
 {
     match judge(alloc, image, layout, units) {
         Ok(account) => Ok(Verdict::Yes(account)),

@@ -1,10 +1,10 @@
 //! The verdict on the words of a command.
 
-ghost use Rattle.std.specs.Prelude.{◌≡◌, ◌≤◌, ◌+◌, IfOk, length, map, string_bytes};
-ghost use Rattle.limits.specs.declared.TheConstants.{MOST_UNITS};
+ghost use Rattle.std.specs.Prelude.{◌≡◌, IfOk, length, map, string_bytes};
 ghost use Rattle.commands.specs.Files.{files};
-ghost use Rattle.command_verdicts.specs.Contents.{contents_of};
+ghost use Rattle.simulation.specs.Judged as judged;
 ghost use Rattle.command_verdicts.specs.Conclusions.{Concludes};
+ghost use Rattle.command_verdicts.specs.Limits.{HasFew};
 ghost use Rattle.command_verdicts.specs.Decided.{Decided, DecidedOn};
 
 use crate::conclude::{checked, shown, upgraded};
@@ -13,13 +13,14 @@ use crate::stop::Stop;
 use commands::command::{Command, command_of};
 use outside::store::Store;
 use report_text::verdict::Verdict;
+use run_verdicts::ran;
 use std::alloc::{AllocError, Global};
 
 /// The verdict on the contents of the command's files, in their order.
 fn concluded(alloc: Global, command: Command, contents: &[Vec<u8>]) -> Result<Verdict, AllocError>
     requires all { length contents.now ≡ length (files command) }
-    requires few { length contents.now ≤ MOST_UNITS + 2 }
-    ensures { IfOk result (Concludes command (contents_of contents.now)) }
+    requires few { HasFew command (length contents.now) }
+    ensures { IfOk result (Concludes command (judged.contents contents.now)) }
 {
     match command {
         Command::Check(_) => {
@@ -27,6 +28,12 @@ fn concluded(alloc: Global, command: Command, contents: &[Vec<u8>]) -> Result<Ve
                 unreachable!();
             };
             checked(alloc, layout, image, units)
+        }
+        Command::Run(steps, _) => {
+            let [layout, image, replies, units @ ..] = contents else {
+                unreachable!();
+            };
+            ran(alloc, layout, image, replies, steps, units)
         }
         Command::Show(address, count) => {
             let [image] = contents else {
@@ -50,7 +57,7 @@ fn decide_on<S: Store>(
     command: Command,
     store: &mut S,
 ) -> Result<Verdict, AllocError>
-    requires { length (files command) ≤ MOST_UNITS + 2 }
+    requires { HasFew command (length (files command)) }
     ensures kept { S.holds store.new ≡ S.holds store.old }
     ensures decided { IfOk result (DecidedOn
         (record {

@@ -4,7 +4,7 @@ ghost use Rattle.std.specs.Prelude.{◌≡◌, IfErr, IfOk, length, map, string_
 ghost use Rattle.commands.specs.Files.{files};
 ghost use Rattle.commands.specs.Reads.{AreRead, IsRead};
 ghost use Rattle.command_verdicts.specs.Stops.{IsNotRead, Stopped, StopsBy};
-ghost use Rattle.command_verdicts.specs.Contents.{contents_of};
+ghost use Rattle.simulation.specs.Judged as judged;
 
 use crate::stop::Stop;
 use commands::command::Command;
@@ -53,7 +53,8 @@ pub fn read_files<S: Store>(
     store: &mut S,
 ) -> Result<Vec<Vec<u8>>, Stop>
     ensures kept { S.holds store.new ≡ S.holds store.old }
-    ensures read { IfOk result (λ contents. AreRead (S.holds store.old) (map string_bytes words.now) (files command) (contents_of contents.items)) }
+    ensures read { IfOk result
+        (λ contents. AreRead (S.holds store.old) (map string_bytes words.now) (files command) (judged.contents contents.items)) }
     ensures stopped { IfErr result (StopsBy (Stopped
         (record {
           holds = S.holds store.old;

@@ -1,5 +1,6 @@
 -- Numbers among the words, written in a base.
-use Rattle.std.specs.Prelude.{ℕ, ◌+◌, ◌-◌, ◌*◌, ◌%◌, Bool, List, ◌∷◌, length, Option, Some, None, option_and_then, nat_lt, nat_le, ◌==◌, ◌&&◌, ◌||◌, fold, if◌then◌else◌}
+use Rattle.std.specs.Prelude.{ℕ, ◌+◌, ◌-◌, ◌*◌, ◌%◌, Bool, List, ◌∷◌, length, Option, Some, None, option_and_then, nat_lt, nat_le, ◌==◌}
+use Rattle.std.specs.Prelude.{◌&&◌, ◌||◌, fold, if◌then◌else◌}
 use Rattle.std.specs.List.{list_all}
 
 -- `0` to `9`, and `A` to `F` of both cases

@@ -3,17 +3,19 @@
 ghost use Rattle.std.specs.Prelude.{◌≡◌, map, string_bytes};
 ghost use Rattle.std.specs.List.{list_all};
 ghost use Rattle.commands.specs.Words.{is_operand};
-ghost use Rattle.commands.specs.Commands.{check_of, command_of, named, show_of, tested, upgrade_of};
+ghost use Rattle.commands.specs.Commands.{check_of, command_of, named, run_of, show_of, tested, upgrade_of};
 
 use crate::number::{address_of, decimal_of};
 use crate::words::is_operand;
-use limits::{MOST_SHOWN_WORDS, MOST_UNITS};
+use limits::{MOST_SHOWN_WORDS, MOST_STEPS, MOST_UNITS};
 
 /// A command that words are. The files that it reads are named by the words.
 #[derive(Clone, Copy, Debug, PartialEq, Eq, Drop)]
 pub enum Command {
     /// `check LAYOUT IMAGE UNIT...`, with so many units.
     Check(u32),
+    /// `run LAYOUT IMAGE REPLIES STEPS UNIT...`, with the steps and so many units.
+    Run(u32, u32),
     /// `show IMAGE ADDRESS COUNT`, with the address and the count.
     Show(u32, u32),
     /// `upgrade UNIT`.
@@ -26,6 +28,18 @@ fn check_of(operands: &[String]) -> Option<Command>
     match operands {
         [_, _, units @ ..] if 1 <= units.len() && units.len() <= MOST_UNITS as usize => {
             Some(Command::Check(units.len() as u32))
+        }
+        _ => None,
+    }
+}
+
+fn run_of(operands: &[String]) -> Option<Command>
+    ensures { result ≡ run_of (map string_bytes operands.now) }
+{
+    match operands {
+        [_, _, _, steps, units @ ..] if 1 <= units.len() && units.len() <= MOST_UNITS as usize => {
+            let steps = decimal_of(MOST_STEPS, steps.as_bytes())?;
+            Some(Command::Run(steps, units.len() as u32))
         }
         _ => None,
     }
@@ -59,6 +73,8 @@ fn named(name: &str, operands: &[String]) -> Option<Command>
 {
     if name == "check" {
         check_of(operands)
+    } else if name == "run" {
+        run_of(operands)
     } else if name == "show" {
         show_of(operands)
     } else if name == "upgrade" {

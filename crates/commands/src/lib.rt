@@ -6,4 +6,6 @@
 pub mod command;
 pub mod file;
 mod number;
+#[cfg(test)]
+mod tests;
 pub mod words;

@@ -1,5 +1,7 @@
 -- Kinds of loaded addresses.
-use Rattle.std.proofs.Common.{◌≡◌, ℕ, zero, suc, ◌+◌, ◌-◌, ◌*◌, ◌%◌, ◌^◌, ◌<◌, ◌≤◌, inl, inr, Bool, true, false, not, ◌&&◌, ◌||◌, ◌==◌, List, [], ◌∷◌, length, get_or, map, position, max, Option, Some, None, refl, sym, ap, subst, ◌∙◌, arith, if◌then◌else◌}
+use Rattle.std.proofs.Common.{◌≡◌, ℕ, zero, suc, ◌+◌, ◌-◌, ◌*◌, ◌%◌, ◌^◌, ◌<◌, ◌≤◌, inl, inr, Bool, true, false, not, ◌&&◌, ◌||◌, ◌==◌}
+use Rattle.std.proofs.Common.{List, [], ◌∷◌, length, get_or, map, position, max, Option, Some, None, refl, sym, ap, subst, ◌∙◌, arith}
+use Rattle.std.proofs.Common.{if◌then◌else◌}
 use Rattle.std.specs.Prelude.{nat_lt, nat_le, option_map, option_and_then}
 use Rattle.std.specs.List.{list_any}
 use Rattle.std.specs.Option.{option_map_or}
@@ -15,7 +17,8 @@ use Rattle.layout_model.specs.Layouts.{Area, Layout, area_holds, is_foreign}
 use Rattle.code_model.specs.Areas.{is_code_kind, is_in_one_area}
 use Rattle.link_model.specs.Claims.{Claim}
 use Rattle.coverage.proofs.Positions.{or_true}
-use Rattle.link_model.specs.Kinds.{Kind, Claimed, Foreign, Padding, Stray, claim_holds, is_in_area, is_free_nop, is_padding, kind_of_byte, kind_at}
+use Rattle.link_model.specs.Kinds.{Kind, Claimed, Foreign, Padding, Stray, claim_holds, is_in_area, is_free_nop, is_padding, kind_of_byte}
+use Rattle.link_model.specs.Kinds.{kind_at}
 
 -- ---- each kind
 
@@ -24,12 +27,14 @@ pub claimed : (v : Image) (l : Layout) (cs : List Claim) (a byte j : ℕ) → by
 unfolding kind_at
 claimed v l cs a byte j e p = rw (e, p) refl
 
-pub foreign : (v : Image) (l : Layout) (cs : List Claim) (a byte : ℕ) → byte_at v a ≡ Some byte → (let none : Option ℕ = None in position (claim_holds a) cs ≡ none) →
+pub foreign : (v : Image) (l : Layout) (cs : List Claim) (a byte : ℕ) → byte_at v a ≡ Some byte
+    → (let none : Option ℕ = None in position (claim_holds a) cs ≡ none) →
     is_foreign l a ≡ true → kind_at v l cs a ≡ Some Foreign
 unfolding kind_at
 foreign v l cs a byte e p f = rw (e, p, f) refl
 
-pub unclaimed : (v : Image) (l : Layout) (cs : List Claim) (a byte : ℕ) → byte_at v a ≡ Some byte → (let none : Option ℕ = None in position (claim_holds a) cs ≡ none) →
+pub unclaimed : (v : Image) (l : Layout) (cs : List Claim) (a byte : ℕ) → byte_at v a ≡ Some byte
+    → (let none : Option ℕ = None in position (claim_holds a) cs ≡ none) →
     is_foreign l a ≡ false → kind_at v l cs a ≡ Some (if is_padding v l cs a byte then Padding else Stray)
 unfolding kind_at
 unclaimed v l cs a byte e p f = rw (e, p, f) refl

@@ -1,5 +1,6 @@
 -- Stretches of one kind.
-use Rattle.std.proofs.Common.{◌≡◌, ℕ, ◌+◌, ◌-◌, ◌%◌, ◌^◌, ◌<◌, ◌≤◌, inl, inr, Bool, true, false, not, ◌&&◌, ◌==◌, List, position, Option, Some, None, refl, sym, ap, subst, ◌∙◌, arith, if◌then◌else◌}
+use Rattle.std.proofs.Common.{◌≡◌, ℕ, ◌+◌, ◌-◌, ◌%◌, ◌^◌, ◌<◌, ◌≤◌, inl, inr, Bool, true, false, not, ◌&&◌, ◌==◌, List, position, Option}
+use Rattle.std.proofs.Common.{Some, None, refl, sym, ap, subst, ◌∙◌, arith, if◌then◌else◌}
 use Rattle.std.specs.Prelude.{nat_le}
 use Rattle.std.specs.List.{list_any}
 use Rattle.std.proofs.lemmas.Bool.{cases_Bool, cases_lt, both_ways, eqb-true, false_from_ne_true, le-leb, lt-leb, ne_eqb}
@@ -30,7 +31,8 @@ pub record IsKnown (v : Image) (l : Layout) (cs : List Claim) (s : Segment) (h :
   pub ends : EndsWithin a end s h
   pub claim : HoldsClaim cs a h.claim
 
-byte_known : (v : Image) (l : Layout) (cs : List Claim) (s : Segment) (h : Here) (a end b : ℕ) → IsKnown v l cs s h a end → a ≤ b → b < end →
+byte_known : (v : Image) (l : Layout) (cs : List Claim) (s : Segment) (h : Here) (a end b : ℕ) → IsKnown v l cs s h a end → a ≤ b
+    → b < end →
     byte_at v b ≡ Some (segment_byte s (b - s.vaddr))
 byte_known v l cs s h a end b k low high =
     let within = k.ends.segment in let begin = k.low in byte_in v a b s k.loadable k.segment (omega arith) (omega arith)
@@ -42,7 +44,8 @@ claimed_stretch v l cs s h a end j k some = record {
   within = k.ends.small;
   kinds = λ b low high.
       let most = k.ends.claim in
-      claimed v l cs b (segment_byte s (b - s.vaddr)) j (byte_known v l cs s h a end b k low high) (k.claim.holder b low (omega arith) ∙ some);
+      claimed v l cs b (segment_byte s (b - s.vaddr)) j (byte_known v l cs s h a end b k low high)
+      (k.claim.holder b low (omega arith) ∙ some);
 }
 
 pub foreign_stretch : (v : Image) (l : Layout) (cs : List Claim) (s : Segment) (h : Here) (a end : ℕ) → IsKnown v l cs s h a end →
@@ -78,7 +81,8 @@ bare_kind v l cs s h a end b k low high =
 zero_pads : (v : Image) (l : Layout) (cs : List Claim) (b byte : ℕ) → byte ≡ 0 → is_in_area l b ≡ true → is_padding v l cs b byte ≡ true
 zero_pads v l cs b byte e area = let z : (byte == 0) ≡ true = rw e refl in rw (z, area) refl
 
-pub zeros_stretch : (v : Image) (l : Layout) (cs : List Claim) (s : Segment) (h : Here) (a end z : ℕ) → IsBare v l cs s h a end → a < z → z ≤ end →
+pub zeros_stretch : (v : Image) (l : Layout) (cs : List Claim) (s : Segment) (h : Here) (a end z : ℕ) → IsBare v l cs s h a end → a < z
+    → z ≤ end →
     AreZero s a z → h.area.is_in_area ≡ true → IsStretch v l cs a (record { kind = kinds.Padding; end = z })
 zeros_stretch v l cs s h a end z k some most zeros area = record {
   some = some;

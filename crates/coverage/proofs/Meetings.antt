@@ -1,5 +1,6 @@
 -- The first claim that meets one before it, from the front.
-use Rattle.std.proofs.Common.{◌≡◌, ℕ, suc, ◌+◌, ◌<◌, ◌≤◌, Bool, true, false, not, List, [], ◌∷◌, length, map, drop, get_or, Option, Some, None, refl, sym, ap, ◌∙◌}
+use Rattle.std.proofs.Common.{◌≡◌, ℕ, suc, ◌+◌, ◌<◌, ◌≤◌, Bool, true, false, not, List, [], ◌∷◌, length, map, drop, get_or, Option, Some}
+use Rattle.std.proofs.Common.{None, refl, sym, ap, ◌∙◌}
 use Rattle.std.specs.Prelude.{nat_lt, option_map, slice_get, if◌then◌else◌}
 use Rattle.std.proofs.lemmas.List.{drop_all, drop_more}
 use Rattle.std.proofs.lemmas.Option.{slice_get-get_or}
@@ -53,7 +54,8 @@ claim_next ks j before k at false = refl
 pub meets_none : (ks : List Kept) (before : Option ℕ) (j : ℕ) (k : Kept) (fault : Option Fault) → j < length ks → get_or ks j k ≡ k →
     meets (claim_before ks before).range (kept_seen k).range ≡ false →
     first_fault (overlap_checks (claim_before ks before) (map kept_seen (drop j ks))) ≡ fault →
-    first_fault (overlap_checks (claim_before ks (if nat_lt k.claim.range.lo k.claim.range.hi then Some j else before)) (map kept_seen (drop (j + 1) ks)))
+    first_fault (overlap_checks (claim_before ks (if nat_lt k.claim.range.lo k.claim.range.hi then Some j else before))
+    (map kept_seen (drop (j + 1) ks)))
     ≡ fault
 meets_none ks before j k fault lt is clear e =
     let at : slice_get ks j ≡ Some k = slice_get-get_or ks j k lt ∙ ap (λ (x : Kept). Some x) is in

@@ -1,5 +1,6 @@
 -- Lists of ranges, none of which has an address of a stretch.
-use Rattle.std.proofs.Common.{◌≡◌, ℕ, ◌+◌, ◌^◌, ◌<◌, ◌≤◌, inl, inr, Bool, true, false, ◌||◌, List, [], ◌∷◌, length, map, get_or, position, Option, Some, None, refl, sym, ap, subst, ◌∙◌, arith}
+use Rattle.std.proofs.Common.{◌≡◌, ℕ, ◌+◌, ◌^◌, ◌<◌, ◌≤◌, inl, inr, Bool, true, false, ◌||◌, List, [], ◌∷◌, length, map, get_or, position}
+use Rattle.std.proofs.Common.{Option, Some, None, refl, sym, ap, subst, ◌∙◌, arith}
 use Rattle.std.specs.Prelude.{nat_le, slice_get}
 use Rattle.std.specs.List.{list_any, find}
 use Rattle.std.proofs.lemmas.Bool.{cases_Bool, cases_lt, or_cases, both_ways, leb-true, ltb-true, and_parts}
@@ -41,7 +42,8 @@ pub outside_none : {X : Type 0} (range : X → Extent) (xs : List X) (a end b : 
 outside_none range xs a end b h low high =
     list_any_none (λ x. holds b (range x)) xs (λ k d lt. outside_fails a end b (range (get_or xs k d)) (h k d lt) low high)
 
-pub outside_more : {X : Type 0} (range : X → Extent) (xs : List X) (i a end less : ℕ) (r : Extent) → AreOutside range xs i a end → less ≤ end →
+pub outside_more : {X : Type 0} (range : X → Extent) (xs : List X) (i a end less : ℕ) (r : Extent) → AreOutside range xs i a end
+    → less ≤ end →
     ((d : X) → range (get_or xs i d) ≡ r) → holds a r ≡ false → (a < r.lo → less ≤ r.lo) → AreOutside range xs (i + 1) a less
 outside_more range xs i a end less r h le is clear before k d lt = elim (cases_lt k i) [
   | inl below ↦ outside_less a end less (range (get_or xs k d)) (h k d below) le
@@ -56,7 +58,8 @@ past_outside a end r h = rw h refl
 begins_later : (a end : ℕ) (r : Extent) → end ≤ r.lo → is_outside a end r ≡ true
 begins_later a end r h = grind (arith, nat_tests)
 
-pub past_more : (ks : List Kept) (j a : ℕ) (r : Extent) → ArePast ks j a → ((d : Kept) → kept_range (get_or ks j d) ≡ r) → is_past a r ≡ true →
+pub past_more : (ks : List Kept) (j a : ℕ) (r : Extent) → ArePast ks j a → ((d : Kept) → kept_range (get_or ks j d) ≡ r)
+    → is_past a r ≡ true →
     ArePast ks (j + 1) a
 past_more ks j a r h is past k d lt = elim (cases_lt k j) [
   | inl below ↦ h k d below

@@ -1,5 +1,6 @@
 -- The account of claims that are apart is that of the same claims in another order.
-use Rattle.std.proofs.Common.{◌≡◌, ℕ, zero, suc, ◌+◌, ◌-◌, ◌%◌, ◌^◌, ◌<◌, ◌≤◌, inl, inr, Bool, true, false, ◌||◌, ◌==◌, List, [], ◌∷◌, ◌++◌, length, map, get_or, position, Option, Some, None, refl, sym, ap, subst, ◌∙◌, arith, if◌then◌else◌}
+use Rattle.std.proofs.Common.{◌≡◌, ℕ, zero, suc, ◌+◌, ◌-◌, ◌%◌, ◌^◌, ◌<◌, ◌≤◌, inl, inr, Bool, true, false, ◌||◌, ◌==◌, List, [], ◌∷◌, ◌++◌}
+use Rattle.std.proofs.Common.{length, map, get_or, position, Option, Some, None, refl, sym, ap, subst, ◌∙◌, arith, if◌then◌else◌}
 use Rattle.std.specs.Prelude.{option_map, slice_get, slice_set, nat_lt}
 use Rattle.std.specs.List.{list_any, sum_by}
 use Rattle.std.specs.Option.{option_map_or}
@@ -19,7 +20,8 @@ use Rattle.link_model.specs.declared.owner.Owner.TheVariants as owners
 use Rattle.link_model.specs.Claims.{Claim, AreApart, Apart}
 use Rattle.link_model.specs.Overlaps.{is_not_above, with_claim, in_order, no_claim}
 use Rattle.link_model.specs.Kinds.{Kind, Claimed, Foreign, Padding, Stray, claim_holds, is_free_nop, is_padding, kind_of_byte, kind_at}
-use Rattle.link_model.specs.Account.{Run, Tally, same_kind, last_run, goes_on, with_address, tally_with, tally_below, kind_owner, span_of, is_function_owner, is_table_owner, is_variable_owner, count_of, bytes_of, account_of, account}
+use Rattle.link_model.specs.Account.{Run, Tally, same_kind, last_run, goes_on, with_address, tally_with, tally_below, kind_owner, span_of}
+use Rattle.link_model.specs.Account.{is_function_owner, is_table_owner, is_variable_owner, count_of, bytes_of, account_of, account}
 use Rattle.link_laws.proofs.Overlaps.{order_apart}
 use Rattle.coverage.proofs.Counting.{one_of, bytes_in, count_sum, bytes_sum}
 use Rattle.coverage.proofs.Positions.{none_passes, no_place, first_place}
@@ -238,7 +240,8 @@ address_named f one runs a k = at (goes_on (runs_named f runs) a (named f k)) (g
     low = ap (λ (r : Run). r.range.lo) (last_named f runs)
 
     at : (b c : Bool) → b ≡ c →
-        (if b then slice_set (runs_named f runs) (length (runs_named f runs) - 1) (record { range = extent (last_run (runs_named f runs)).range.lo (a + 1); kind = named f k })
+        (if b then slice_set (runs_named f runs) (length (runs_named f runs) - 1)
+        (record { range = extent (last_run (runs_named f runs)).range.lo (a + 1); kind = named f k })
         else runs_named f runs ++ record { range = extent a (a + 1); kind = named f k } ∷ [])
         ≡ runs_named f (if c then slice_set runs (length runs - 1) (record { range = extent (last_run runs).range.lo (a + 1); kind = k })
         else runs ++ record { range = extent a (a + 1); kind = k } ∷ [])
@@ -327,7 +330,8 @@ stray_same v l cs ds any a e = at (byte_at v a) e
     at (Some byte) h =
         let stray : kind_of_byte v l cs a byte ≡ Stray = cc in
         ap Some (rw nop (stray_or (position (claim_holds a) cs) (position (claim_holds a) ds) (is_foreign l a)
-        (is_padding v l cs a byte) (λ none. no_place (claim_holds a) ds no_claim (any (claim_holds a) ∙ none_passes (claim_holds a) cs none)) stray))
+        (is_padding v l cs a byte)
+        (λ none. no_place (claim_holds a) ds no_claim (any (claim_holds a) ∙ none_passes (claim_holds a) cs none)) stray))
 
 pub strays_in_order : (v : Image) (l : Layout) (cs : List Claim) (a : ℕ) → kind_at v l (in_order cs) a ≡ Some Stray →
     kind_at v l cs a ≡ Some Stray

@@ -8,7 +8,8 @@ use Rattle.link_model.specs.Account as accounts
 use Rattle.coverage.specs.declared.tally.Run.{Run}
 use Rattle.coverage.specs.Tallies.{run, run_seen, with_run}
 
-pub ends_at : (runs : List accounts.Run) (a : ℕ) (kind : model.Kind) → accounts.goes_on runs a kind ≡ true → (accounts.last_run runs).range.hi ≡ a
+pub ends_at : (runs : List accounts.Run) (a : ℕ) (kind : model.Kind) → accounts.goes_on runs a kind ≡ true
+    → (accounts.last_run runs).range.hi ≡ a
 ends_at runs a kind g =
     let some = nat_lt 0 (length runs) in
     let ends = (accounts.last_run runs).range.hi == a in

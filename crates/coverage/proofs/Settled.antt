@@ -1,5 +1,6 @@
 -- Claims in their order stand as in_order has them, and none meets where no overlap test fails.
-use Rattle.std.proofs.Common.{◌≡◌, ◌≤◌, ℕ, Bool, true, false, List, [], ◌∷◌, ◌∙◌, Option, Some, None, suc, refl, sym, ap, arith, if◌then◌else◌}
+use Rattle.std.proofs.Common.{◌≡◌, ◌≤◌, ℕ, Bool, true, false, List, [], ◌∷◌, ◌∙◌, Option, Some, None, suc, refl, sym, ap, arith}
+use Rattle.std.proofs.Common.{if◌then◌else◌}
 use Rattle.std.specs.Prelude.{IsNone, option_map}
 use Rattle.std.proofs.lemmas.Bool.Decides.{nat_tests}
 use Rattle.ordered_tests.specs.Checks.{Check}

@@ -1,5 +1,6 @@
 -- The loaded addresses below the end of a stretch of one kind: the last run goes on, or a new one begins.
-use Rattle.std.proofs.Common.{◌≡◌, ℕ, zero, suc, ◌+◌, ◌-◌, ◌<◌, ◌≤◌, Bool, true, false, List, [], ◌∷◌, ◌++◌, length, get_or, Option, Some, None, refl, sym, ap, subst, ◌∙◌, arith, get_or-set_same, length-set, length-append}
+use Rattle.std.proofs.Common.{◌≡◌, ℕ, zero, suc, ◌+◌, ◌-◌, ◌<◌, ◌≤◌, Bool, true, false, List, [], ◌∷◌, ◌++◌, length, get_or, Option, Some}
+use Rattle.std.proofs.Common.{None, refl, sym, ap, subst, ◌∙◌, arith, get_or-set_same, length-set, length-append}
 use Rattle.std.specs.Prelude.{◌&&◌, ◌==◌, nat_lt, slice_set, if◌then◌else◌}
 use Rattle.std.proofs.lemmas.Bool.{and_parts, lt-ltb, ltb-true, eq-eqb}
 use Rattle.std.proofs.lemmas.List.{set-set, set_at, get_or_push, length_push}
@@ -67,7 +68,8 @@ run_more : (runs : List Run) (a m : ℕ) (kind : Kind) → with_address (with_ru
 run_more runs a m kind = at (goes_on runs a kind) refl
   where
     at : (b : Bool) → goes_on runs a kind ≡ b →
-        with_address (if b then slice_set runs (length runs - 1) (run (last_run runs).range.lo m kind) else runs ++ run a m kind ∷ []) m kind
+        with_address (if b then slice_set runs (length runs - 1) (run (last_run runs).range.lo m kind)
+        else runs ++ run a m kind ∷ []) m kind
         ≡ (if b then slice_set runs (length runs - 1) (run (last_run runs).range.lo (m + 1) kind) else runs ++ run a (m + 1) kind ∷ [])
     at true g =
         let ends = nat_lt 0 (length runs) && ((last_run runs).range.hi == a) in

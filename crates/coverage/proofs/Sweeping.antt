@@ -1,5 +1,6 @@
 -- What is known of the addresses below one, after one stretch more.
-use Rattle.std.proofs.Common.{◌≡◌, ℕ, ◌+◌, ◌-◌, ◌^◌, ◌<◌, ◌≤◌, inl, inr, Bool, true, false, List, [], map, Option, Some, None, refl, sym, ap, subst, ◌∙◌, arith}
+use Rattle.std.proofs.Common.{◌≡◌, ℕ, ◌+◌, ◌-◌, ◌^◌, ◌<◌, ◌≤◌, inl, inr, Bool, true, false, List, [], map, Option, Some, None, refl, sym}
+use Rattle.std.proofs.Common.{ap, subst, ◌∙◌, arith}
 use Rattle.std.proofs.lemmas.Bool.{cases_lt, both_ways}
 use Rattle.image_model.specs.Image.{Image, Segment}
 use Rattle.image_model.specs.Loaded.{byte_at, segment_of, segment_byte}
@@ -44,7 +45,8 @@ pub swept_start : (v : Image) (l : Layout) (ks : List Kept) (t : Tally) (h : Her
 unfolding tally_below
 swept_start v l ks t h e k n = record { tally = e; none = λ b lt stray. absurd (omega arith); here = k; counted = n }
 
-pub swept_gap : (v : Image) (l : Layout) (ks : List Kept) (t : Tally) (h : Here) (a end : ℕ) → Swept v l ks t h a → a ≤ end → NoneLoaded v a end →
+pub swept_gap : (v : Image) (l : Layout) (ks : List Kept) (t : Tally) (h : Here) (a end : ℕ) → Swept v l ks t h a → a ≤ end
+    → NoneLoaded v a end →
     Swept v l ks t h end
 swept_gap v l ks t h a end s le gap = record {
   tally = s.tally ∙ sym (gap_below v l cs a end le none);
@@ -75,7 +77,8 @@ is_stray model.Foreign h = absurd (cc)
 is_stray model.Padding h = absurd (cc)
 is_stray model.Stray h = refl
 
-pub swept_stretch : (v : Image) (l : Layout) (ks : List Kept) (t new : Tally) (last h : Here) (a : ℕ) (s : Stretch) → Swept v l ks t last a →
+pub swept_stretch : (v : Image) (l : Layout) (ks : List Kept) (t new : Tally) (last h : Here) (a : ℕ) (s : Stretch)
+    → Swept v l ks t last a →
     HoldsHere l ks a h → IsStretch v l (map kept_seen ks) a s → same_kind (kind_seen s.kind) model.Stray ≡ false →
     tally_seen new ≡ with_stretch (tally_seen t) a s.end (kind_seen s.kind) → IsCounted new s.end → Swept v l ks new h s.end
 swept_stretch v l ks t new last h a s swept here stretch other e counted = record {

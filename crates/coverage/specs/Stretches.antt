@@ -1,5 +1,6 @@
 -- Addresses from one on up to an end, over which an answer stays the same.
-use Rattle.std.specs.Prelude.{◌≡◌, ℕ, ◌<◌, ◌≤◌, ◌^◌, true, false, ◌||◌, Bool, nat_le, List, map, length, slice_index_or, position, Option, Some, None}
+use Rattle.std.specs.Prelude.{◌≡◌, ℕ, ◌<◌, ◌≤◌, ◌^◌, true, false, ◌||◌, Bool, nat_le, List, map, length, slice_index_or, position, Option}
+use Rattle.std.specs.Prelude.{Some, None}
 use Rattle.std.specs.List.{list_any}
 use Rattle.word_ops.specs.Ranges.{Extent, extent, holds}
 use Rattle.word_ops.specs.Seen.{extent_of}

@@ -102,22 +102,6 @@ fn claims_of(kept: &[Kept], part: Part) -> Counted
     Counted { claims, bytes }
 }
 
-fn copied(alloc: Global, owner: &Owner) -> Result<Owner, AllocError>
-    ensures { IfOk result (λ o. o ≡ owner.now) }
-{
-    match owner {
-        Owner::Function(unit, name) => Ok(Owner::Function(unit.copy(alloc)?, name.copy(alloc)?)),
-        Owner::Table(unit, name, offset) => Ok(Owner::Table(
-            unit.copy(alloc)?,
-            name.copy(alloc)?,
-            *offset,
-        )),
-        Owner::Variable(unit, name) => Ok(Owner::Variable(unit.copy(alloc)?, name.copy(alloc)?)),
-        Owner::Padding => Ok(Owner::Padding),
-        Owner::Foreign => Ok(Owner::Foreign),
-    }
-}
-
 /// The owner of the addresses of a kind.
 fn owner_of(alloc: Global, kept: &[Kept], kind: Kind) -> Result<Owner, AllocError>
     ensures { IfOk result (λ o. o ≡ kind_owner (map kept_seen kept.now) (kind_seen kind)) }
@@ -125,7 +109,7 @@ fn owner_of(alloc: Global, kept: &[Kept], kind: Kind) -> Result<Owner, AllocErro
     match kind {
         Kind::Claimed(j) => {
             if j < kept.len() {
-                copied(alloc, &kept[j].claim.owner)
+                kept[j].claim.owner.copy(alloc)
             } else {
                 Ok(Owner::Padding)
             }

@@ -1,6 +1,7 @@
 //! Claims in the order of their addresses.
 
-ghost use Rattle.std.specs.Prelude.{◌≡◌, ◌<◌, ◌≤◌, ◌↔◌, ◌++◌, [], ◌∷◌, List, All, IfNone, IfSome, IsNone, None, false, true, IsPermutation, OnErr, OnOk, Some, length, map, if◌then◌else◌, nat_lt, option_map, slice_get};
+ghost use Rattle.std.specs.Prelude.{◌≡◌, ◌<◌, ◌≤◌, ◌↔◌, ◌++◌, [], ◌∷◌, List, All, IfNone, IfSome, IsNone, None, false, true, IsPermutation};
+ghost use Rattle.std.specs.Prelude.{OnErr, OnOk, Some, length, map, if◌then◌else◌, nat_lt, option_map, slice_get};
 ghost use Rattle.std.specs.List.Sorted.{IsNonDecreasingBy};
 ghost use Rattle.word_ops.specs.Ranges.{extent, meets};
 ghost use Rattle.word_ops.specs.Seen.{extent_of};
@@ -209,7 +210,8 @@ impl Claims {
 
     /// Of settled claims, the first that meets the last one before it that has addresses.
     pub fn meeting(&self) -> Option<Meeting>
-        ensures fault { (cs : List claims.Claim) → self.now ≡ in_order cs → first_fault (overlap_pass cs) ≡ option_map meeting_fault result }
+        ensures fault { (cs : List claims.Claim) → self.now ≡ in_order cs
+            → first_fault (overlap_pass cs) ≡ option_map meeting_fault result }
         ensures addresses { IfSome result (λ m. m.claim.now.range.lo < m.claim.now.range.hi) }
     {
         lowest_meeting(self.kept())

@@ -2,10 +2,12 @@
 #![tactic(auto)]
 
 pub mod account;
+#[cfg(test)]
+mod account_tests;
 pub mod claims;
-pub mod kinds;
-pub mod stretches;
+mod kinds;
+mod stretches;
 pub mod sweep;
-pub mod tally;
+mod tally;
 #[cfg(test)]
 mod tests;

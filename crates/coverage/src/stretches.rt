@@ -8,7 +8,8 @@ ghost use Rattle.layout_model.specs.Layouts.{Layout};
 ghost use Rattle.code_model.specs.Areas.{is_code_kind};
 ghost use Rattle.coverage.specs.declared.claims.Kept.{Kept};
 ghost use Rattle.coverage.specs.Orders.{kept_seen};
-ghost use Rattle.coverage.specs.Stretches.{is_past, Rise, ArePast, StandsAt, HoldsForeign, HoldsArea, HoldsClaim, HoldsHere, ReachesPast, NoneLoaded};
+ghost use Rattle.coverage.specs.Stretches.{is_past, Rise, ArePast, StandsAt, HoldsForeign, HoldsArea, HoldsClaim, HoldsHere, ReachesPast};
+ghost use Rattle.coverage.specs.Stretches.{NoneLoaded};
 
 use crate::claims::Kept;
 use elf_view::{LoadedSegments, NumberedSegment};

@@ -54,7 +54,8 @@ fn piece_fault(
     requires fits { offset + length bytes.now < 2 ^ 32 }
     requires has { HasAll segments.now (segment_seen segment.now) (a + offset + from) (a + offset + to) }
     requires range { segment.now.vaddr + segment.now.memsz ≤ 2 ^ 32 }
-    ensures none { IfNone result (bytes_fault segments.now a (offset + from) (drop from bytes.now) ≡ bytes_fault segments.now a (offset + to) (drop to bytes.now)) }
+    ensures none { IfNone result
+        (bytes_fault segments.now a (offset + from) (drop from bytes.now) ≡ bytes_fault segments.now a (offset + to) (drop to bytes.now)) }
     ensures some { IfSome result (λ f. bytes_fault segments.now a (offset + from) (drop from bytes.now) ≡ Some (spot_of a f)) }
 {
     for i in from..to {
@@ -118,7 +119,9 @@ fn zero_piece_fault(
     requires fits { offset + n < 2 ^ 32 }
     requires has { HasAll segments.now (segment_seen segment.now) (a + offset + from) (a + offset + to) }
     requires range { segment.now.vaddr + segment.now.memsz ≤ 2 ^ 32 }
-    ensures none { IfNone result (bytes_fault segments.now a (offset + from) (replicate (n - from) 0) ≡ bytes_fault segments.now a (offset + to) (replicate (n - to) 0)) }
+    ensures none { IfNone result
+        (bytes_fault segments.now a (offset + from) (replicate (n - from) 0) ≡ bytes_fault segments.now a (offset + to)
+        (replicate (n - to) 0)) }
     ensures some { IfSome result (λ f. bytes_fault segments.now a (offset + from) (replicate (n - from) 0) ≡ Some (spot_of a f)) }
 {
     let start = u64::from(a) + u64::from(offset) + u64::from(from);

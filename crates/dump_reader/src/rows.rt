@@ -1,6 +1,41 @@
 //! Texts beside what the readers answer: a reason of the profile, the path, and the number of the shape or the limit. They are handed
 //! out by functions without a contract, so that the proofs of the tests do not read them.
 
+/// What a text of a row is.
+#[derive(Clone, Copy, PartialEq)]
+pub enum Place {
+    /// A whole text of a unit.
+    Text,
+    /// The lists of a unit.
+    Lists,
+    /// The items of one list of a unit.
+    Functions,
+    Variables,
+    Externals,
+    /// The code of one function.
+    Code,
+    /// An instruction that a label follows, of which the answer tells what is read.
+    Instruction,
+    /// The labels of a jump table.
+    Labels,
+    /// The items of one variable.
+    Init,
+    /// The signature of one external in version 1 and in version 2.
+    Signature1,
+    Signature2,
+    /// A signature in version 2, of which the answer tells the buffers.
+    Buffers,
+    /// A whole text of replies.
+    ReplyText,
+    /// The items of replies in version 1 and in version 2.
+    Replies1,
+    Replies2,
+    /// Items of replies in version 2, of which the answer tells what is read.
+    Values,
+    /// The digits of one fill.
+    Fill,
+}
+
 /// Whole texts of units.
 static UNITS: [(&str, &str); 18] = [
     ("{", "1 not-json"),
@@ -41,11 +76,6 @@ static UNITS: [(&str, &str); 18] = [
     ),
 ];
 
-pub fn units() -> &'static [(&'static str, &'static str)] {
-    &UNITS
-}
-
-/// The code of one function.
 static CODES: [(&str, &str); 80] = [
     ("", "7 shape /functions/0 5"),
     (
@@ -222,12 +252,7 @@ static CODES: [(&str, &str); 80] = [
     ),
 ];
 
-pub fn codes() -> &'static [(&'static str, &'static str)] {
-    &CODES
-}
-
-/// The items of one variable.
-static DATA: [(&str, &str); 27] = [
+static INITS: [(&str, &str); 27] = [
     (
         r#"["i8",-128],["i8",255],["i16",-32768],["i16",65535],["i32",-2147483648],["i32",4294967295],["bytes","0aF9"],["bytes",""],["space",0],["addr","x",-4]"#,
         "unit",
@@ -275,305 +300,230 @@ static DATA: [(&str, &str); 27] = [
     ),
 ];
 
-pub fn data() -> &'static [(&'static str, &'static str)] {
-    &DATA
-}
-
-/// A version, and the signature of one external.
-static SIGNATURES: [(u32, &str, &str); 38] = [
-    (1, "null", "unit"),
-    (1, "7", "3 wrong-kind /externals/0/sig"),
-    (1, "{}", "2 missing /externals/0/sig/args"),
-    (1, r#"{"args":["w","l"],"result":"none"}"#, "unit"),
+static SIGNATURES_1: [(&str, &str); 8] = [
+    ("null", "unit"),
+    ("7", "3 wrong-kind /externals/0/sig"),
+    ("{}", "2 missing /externals/0/sig/args"),
+    (r#"{"args":["w","l"],"result":"none"}"#, "unit"),
     (
-        1,
         r#"{"args":["x"],"result":"none"}"#,
         "5 unknown-word /externals/0/sig/args/0",
     ),
     (
-        1,
         r#"{"args":["w"],"result":"x"}"#,
         "5 unknown-word /externals/0/sig/result",
     ),
     (
-        1,
         r#"{"args":["l","l","l","l","w"]}"#,
         "7 shape /externals/0/sig/args 7",
     ),
-    (1, r#"{"args":["w"],"result":"none","buffers":7}"#, "unit"),
-    (2, "null", "unit"),
+    (r#"{"args":["w"],"result":"none","buffers":7}"#, "unit"),
+];
+
+static SIGNATURES_2: [(&str, &str); 30] = [
+    ("null", "unit"),
     (
-        2,
         r#"{"args":["w"],"result":"none"}"#,
         "2 missing /externals/0/sig/buffers",
     ),
     (
-        2,
         r#"{"args":["l","l","l","l","w"]}"#,
         "7 shape /externals/0/sig/args 7",
     ),
     (
-        2,
         r#"{"args":["w"],"result":"x"}"#,
         "5 unknown-word /externals/0/sig/result",
     ),
     (
-        2,
         r#"{"args":["w"],"result":"none","buffers":7}"#,
         "3 wrong-kind /externals/0/sig/buffers",
     ),
-    (2, r#"{"args":["w"],"result":"none","buffers":[]}"#, "unit"),
+    (r#"{"args":["w"],"result":"none","buffers":[]}"#, "unit"),
     (
-        2,
         r#"{"args":["w"],"result":"none","buffers":[7]}"#,
         "3 wrong-kind /externals/0/sig/buffers/0",
     ),
     (
-        2,
         r#"{"args":["w"],"result":"none","buffers":[[]]}"#,
         "4 out-of-range /externals/0/sig/buffers/0",
     ),
     (
-        2,
         r#"{"args":["w"],"result":"none","buffers":[[1,0,4]]}"#,
         "3 wrong-kind /externals/0/sig/buffers/0/0",
     ),
     (
-        2,
         r#"{"args":["w"],"result":"none","buffers":[["inout",0,4]]}"#,
         "5 unknown-word /externals/0/sig/buffers/0/0",
     ),
     (
-        2,
         r#"{"args":["w"],"result":"none","buffers":[["in",0]]}"#,
         "4 out-of-range /externals/0/sig/buffers/0",
     ),
     (
-        2,
         r#"{"args":["w"],"result":"none","buffers":[["in",0,4,4]]}"#,
         "4 out-of-range /externals/0/sig/buffers/0",
     ),
     (
-        2,
         r#"{"args":["w"],"result":"none","buffers":[["in",256,4]]}"#,
         "4 out-of-range /externals/0/sig/buffers/0/1",
     ),
     (
-        2,
         r#"{"args":["w"],"result":"none","buffers":[["in","0",4]]}"#,
         "3 wrong-kind /externals/0/sig/buffers/0/1",
     ),
     (
-        2,
         r#"{"args":["w"],"result":"none","buffers":[["in",0,65537]]}"#,
         "4 out-of-range /externals/0/sig/buffers/0/2",
     ),
     (
-        2,
         r#"{"args":["w"],"result":"none","buffers":[["in",0,-1]]}"#,
         "4 out-of-range /externals/0/sig/buffers/0/2",
     ),
     (
-        2,
         r#"{"args":["w"],"result":"none","buffers":[["in",0,"4"]]}"#,
         "3 wrong-kind /externals/0/sig/buffers/0/2",
     ),
     (
-        2,
         r#"{"args":["w"],"result":"none","buffers":[["in",0,[]]]}"#,
         "4 out-of-range /externals/0/sig/buffers/0/2",
     ),
     (
-        2,
         r#"{"args":["w"],"result":"none","buffers":[["in",0,["arg"]]]}"#,
         "4 out-of-range /externals/0/sig/buffers/0/2",
     ),
     (
-        2,
         r#"{"args":["w"],"result":"none","buffers":[["in",0,["len",0]]]}"#,
         "5 unknown-word /externals/0/sig/buffers/0/2/0",
     ),
     (
-        2,
         r#"{"args":["w"],"result":"none","buffers":[["in",0,[0,0]]]}"#,
         "3 wrong-kind /externals/0/sig/buffers/0/2/0",
     ),
     (
-        2,
         r#"{"args":["w"],"result":"none","buffers":[["in",0,["arg",256]]]}"#,
         "4 out-of-range /externals/0/sig/buffers/0/2/1",
     ),
     (
-        2,
         r#"{"args":["w"],"result":"none","buffers":[["in",0,1],["in",0,1],["in",0,1],["in",0,1],["in",0,1],["in",0,1],["in",0,1],["in",0,1]]}"#,
         "unit",
     ),
     (
-        2,
         r#"{"args":["w"],"result":"none","buffers":[["in",0,1],["in",0,1],["in",0,1],["in",0,1],["in",0,1],["in",0,1],["in",0,1],["in",0,1],7]}"#,
         "9 limit /externals/0/sig/buffers 8",
     ),
     (
-        2,
         r#"{"args":["w","l"],"result":"none","buffers":[["in",1,4]]}"#,
         "7 shape /externals/0/sig/buffers/0 8",
     ),
     (
-        2,
         r#"{"args":["w","l"],"result":"none","buffers":[["in",0,["arg",1]]]}"#,
         "7 shape /externals/0/sig/buffers/0 8",
     ),
     (
-        2,
         r#"{"args":["w"],"result":"none","buffers":[["in",1,4]]}"#,
         "7 shape /externals/0/sig/buffers/0 8",
     ),
     (
-        2,
         r#"{"args":["w"],"result":"none","buffers":[["in",0,65536],["out",0,["arg",0]],["out",0,["arg",1]]]}"#,
         "7 shape /externals/0/sig/buffers/2 8",
     ),
     (
-        2,
         r#"{"args":["w"],"result":"none","buffers":[["in",9,4],["in",0,65537]]}"#,
         "4 out-of-range /externals/0/sig/buffers/1/2",
     ),
     (
-        2,
         r#"{"args":["w","w"],"result":"none","buffers":[["in",0,0],["out",1,["arg",0]]]}"#,
         "unit",
     ),
 ];
 
-pub fn signatures() -> &'static [(u32, &'static str, &'static str)] {
-    &SIGNATURES
-}
-
-/// The functions, variables and externals of a unit.
-static PARTS: [(&str, &str, &str, &str); 21] = [
+static LISTS: [(&str, &str); 21] = [
     (
-        r#"{"name":"f","static":false,"code":[["blr"]]}"#,
-        r#"{"name":"v","static":true,"writable":false,"align":16,"init":[]}"#,
-        r#"{"name":"e","sig":null}"#,
+        r#""functions":[{"name":"f","static":false,"code":[["blr"]]}],"variables":[{"name":"v","static":true,"writable":false,"align":16,"init":[]}],"externals":[{"name":"e","sig":null}]"#,
         "unit",
     ),
     (
-        "7",
-        r#"{"name":"v","static":true,"writable":false,"align":16,"init":[]}"#,
-        "",
+        r#""functions":[7],"variables":[{"name":"v","static":true,"writable":false,"align":16,"init":[]}],"externals":[]"#,
         "3 wrong-kind /functions/0",
     ),
     (
-        "{}",
-        r#"{"name":"v","static":true,"writable":false,"align":16,"init":[]}"#,
-        "",
+        r#""functions":[{}],"variables":[{"name":"v","static":true,"writable":false,"align":16,"init":[]}],"externals":[]"#,
         "2 missing /functions/0/name",
     ),
     (
-        r#"{"name":"f","static":0}"#,
-        "",
-        "",
+        r#""functions":[{"name":"f","static":0}],"variables":[],"externals":[]"#,
         "3 wrong-kind /functions/0/static",
     ),
     (
-        r#"{"name":"f","static":false,"code":[]},7"#,
-        "",
-        "",
+        r#""functions":[{"name":"f","static":false,"code":[]},7],"variables":[],"externals":[]"#,
         "7 shape /functions/0 5",
     ),
     (
-        r#"{"name":"f","static":false,"code":[["blr"]]}"#,
-        r#"{"name":"f"},{}"#,
-        "",
+        r#""functions":[{"name":"f","static":false,"code":[["blr"]]}],"variables":[{"name":"f"},{}],"externals":[]"#,
         "4 out-of-range /variables/0/name",
     ),
     (
-        r#"{"name":"f","static":false,"code":[["blr"]]}"#,
-        r#"{"name":"v","static":true,"writable":false,"align":16,"init":[]}"#,
-        r#"{"name":"f"},{}"#,
+        r#""functions":[{"name":"f","static":false,"code":[["blr"]]}],"variables":[{"name":"v","static":true,"writable":false,"align":16,"init":[]}],"externals":[{"name":"f"},{}]"#,
         "4 out-of-range /externals/0/name",
     ),
     (
-        r#"{"name":"f","static":false,"code":[["blr"]]}"#,
-        r#"{"name":"v","static":true,"writable":false,"align":16,"init":[]}"#,
-        r#"{"name":"v"}"#,
+        r#""functions":[{"name":"f","static":false,"code":[["blr"]]}],"variables":[{"name":"v","static":true,"writable":false,"align":16,"init":[]}],"externals":[{"name":"v"}]"#,
         "4 out-of-range /externals/0/name",
     ),
     (
-        r#"{"name":"f","static":false,"code":[["blr"]]},{"name":"f"},{}"#,
-        "",
-        "",
+        r#""functions":[{"name":"f","static":false,"code":[["blr"]]},{"name":"f"},{}],"variables":[],"externals":[]"#,
         "4 out-of-range /functions/1/name",
     ),
     (
-        "",
-        r#"{"name":"v","static":true}"#,
-        "",
+        r#""functions":[],"variables":[{"name":"v","static":true}],"externals":[]"#,
         "2 missing /variables/0/writable",
     ),
     (
-        "",
-        r#"{"name":"v","static":true,"writable":false,"align":1,"init":[]}"#,
-        "",
+        r#""functions":[],"variables":[{"name":"v","static":true,"writable":false,"align":1,"init":[]}],"externals":[]"#,
         "unit",
     ),
     (
-        "",
-        r#"{"name":"v","static":true,"writable":false,"align":2,"init":[]}"#,
-        "",
+        r#""functions":[],"variables":[{"name":"v","static":true,"writable":false,"align":2,"init":[]}],"externals":[]"#,
         "unit",
     ),
     (
-        "",
-        r#"{"name":"v","static":true,"writable":false,"align":8,"init":[]}"#,
-        "",
+        r#""functions":[],"variables":[{"name":"v","static":true,"writable":false,"align":8,"init":[]}],"externals":[]"#,
         "unit",
     ),
     (
-        "",
-        r#"{"name":"v","static":true,"writable":false,"align":0,"init":[]}"#,
-        "",
+        r#""functions":[],"variables":[{"name":"v","static":true,"writable":false,"align":0,"init":[]}],"externals":[]"#,
         "4 out-of-range /variables/0/align",
     ),
     (
-        "",
-        r#"{"name":"v","static":true,"writable":false,"align":3,"init":[]}"#,
-        "",
+        r#""functions":[],"variables":[{"name":"v","static":true,"writable":false,"align":3,"init":[]}],"externals":[]"#,
         "4 out-of-range /variables/0/align",
     ),
     (
-        "",
-        r#"{"name":"v","static":true,"writable":false,"align":17,"init":[]}"#,
-        "",
+        r#""functions":[],"variables":[{"name":"v","static":true,"writable":false,"align":17,"init":[]}],"externals":[]"#,
         "4 out-of-range /variables/0/align",
     ),
     (
-        "",
-        r#"{"name":"v","static":true,"writable":false,"align":"4","init":[]}"#,
-        "",
+        r#""functions":[],"variables":[{"name":"v","static":true,"writable":false,"align":"4","init":[]}],"externals":[]"#,
         "3 wrong-kind /variables/0/align",
     ),
     (
-        "",
-        "",
-        r#"{"name":"nnnnnnnnnnnnnnnnnnnnnnnnnnnnnnnnnnnnnnnnnnnnnnnnnnnnnnnnnnnnnnnnnnnnnnnnnnnnnnnnnnnnnnnnnnnnnnnnnnnnnnnnnnnnnnnnnnnnnnnnnnnnnnnnnnnnnnnnnnnnnnnnnnnnnnnnnnnnnnnnnnnnnnnnnnnnnnnnnnnnnnnnnnnnnnnnnnnnnnnnnnnnnnnnnnnnnnnnnnnnnnnnnnnnnnnnnnnnnnnnnnnnnnnnnnnnnnn","sig":null}"#,
+        r#""functions":[],"variables":[],"externals":[{"name":"nnnnnnnnnnnnnnnnnnnnnnnnnnnnnnnnnnnnnnnnnnnnnnnnnnnnnnnnnnnnnnnnnnnnnnnnnnnnnnnnnnnnnnnnnnnnnnnnnnnnnnnnnnnnnnnnnnnnnnnnnnnnnnnnnnnnnnnnnnnnnnnnnnnnnnnnnnnnnnnnnnnnnnnnnnnnnnnnnnnnnnnnnnnnnnnnnnnnnnnnnnnnnnnnnnnnnnnnnnnnnnnnnnnnnnnnnnnnnnnnnnnnnnnnnnnnnnn","sig":null}]"#,
         "unit",
     ),
     (
-        "",
-        "",
-        r#"{"name":"nnnnnnnnnnnnnnnnnnnnnnnnnnnnnnnnnnnnnnnnnnnnnnnnnnnnnnnnnnnnnnnnnnnnnnnnnnnnnnnnnnnnnnnnnnnnnnnnnnnnnnnnnnnnnnnnnnnnnnnnnnnnnnnnnnnnnnnnnnnnnnnnnnnnnnnnnnnnnnnnnnnnnnnnnnnnnnnnnnnnnnnnnnnnnnnnnnnnnnnnnnnnnnnnnnnnnnnnnnnnnnnnnnnnnnnnnnnnnnnnnnnnnnnnnnnnnnnn","sig":null}"#,
+        r#""functions":[],"variables":[],"externals":[{"name":"nnnnnnnnnnnnnnnnnnnnnnnnnnnnnnnnnnnnnnnnnnnnnnnnnnnnnnnnnnnnnnnnnnnnnnnnnnnnnnnnnnnnnnnnnnnnnnnnnnnnnnnnnnnnnnnnnnnnnnnnnnnnnnnnnnnnnnnnnnnnnnnnnnnnnnnnnnnnnnnnnnnnnnnnnnnnnnnnnnnnnnnnnnnnnnnnnnnnnnnnnnnnnnnnnnnnnnnnnnnnnnnnnnnnnnnnnnnnnnnnnnnnnnnnnnnnnnnn","sig":null}]"#,
         "4 out-of-range /externals/0/name",
     ),
-    ("", "", r#"{"name":""}"#, "4 out-of-range /externals/0/name"),
-    ("", "", r#"{"name":"e"}"#, "2 missing /externals/0/sig"),
+    (
+        r#""functions":[],"variables":[],"externals":[{"name":""}]"#,
+        "4 out-of-range /externals/0/name",
+    ),
+    (
+        r#""functions":[],"variables":[],"externals":[{"name":"e"}]"#,
+        "2 missing /externals/0/sig",
+    ),
 ];
 
-pub fn parts() -> &'static [(&'static str, &'static str, &'static str, &'static str)] {
-    &PARTS
-}
-
-/// An instruction, and what it is read as: the operands stand in the order of the dump.
 static INSTRUCTIONS: [(&str, &str); 26] = [
     (
         r#"["addi",3,0,7]"#,
@@ -636,11 +586,11 @@ static INSTRUCTIONS: [(&str, &str); 26] = [
     (r#"["annot","x",1.5]"#, "Annot"),
 ];
 
-pub fn instructions() -> &'static [(&'static str, &'static str)] {
-    &INSTRUCTIONS
-}
+static BUFFERS: [(&str, &str); 1] = [(
+    r#"{"args":["w","l","w"],"result":"none","buffers":[["in",0,["arg",2]],["out",2,65536]]}"#,
+    "Listed { kept: [Buffer { fills: false, arg: 0, size: Arg(2) }, Buffer { fills: true, arg: 2, size: Fixed(65536) }] }",
+)];
 
-/// Whole texts of replies.
 static REPLY_TEXTS: [(&str, &str); 8] = [
     ("{", "1 not-json"),
     (r#"{"valex":"unit"}"#, "5 unknown-word /valex"),
@@ -661,80 +611,107 @@ static REPLY_TEXTS: [(&str, &str); 8] = [
     (r#"{"valex":"replies","version":2}"#, "2 missing /replies"),
 ];
 
-pub fn reply_texts() -> &'static [(&'static str, &'static str)] {
-    &REPLY_TEXTS
-}
+static REPLIES_1: [(&str, &str); 2] = [
+    ("0,-1,[0,4294967295]", "replies"),
+    (r#"{"r3":0,"r4":0,"fills":[]}"#, "3 wrong-kind /replies/0"),
+];
 
-/// A version, and the items of replies.
-static REPLIES: [(u32, &str, &str); 15] = [
-    (1, "0,-1,[0,4294967295]", "replies"),
+static REPLIES_2: [(&str, &str); 13] = [
     (
-        1,
-        r#"{"r3":0,"r4":0,"fills":[]}"#,
-        "3 wrong-kind /replies/0",
-    ),
-    (
-        2,
         r#"0,[1,2],{"r3":-1,"r4":4294967295,"fills":[],"r5":1}"#,
         "replies",
     ),
-    (2, "0,{}", "2 missing /replies/1/r3"),
-    (2, r#"{"r3":"0"}"#, "3 wrong-kind /replies/0/r3"),
-    (2, r#"{"r3":4294967296}"#, "4 out-of-range /replies/0/r3"),
-    (2, r#"{"r3":0}"#, "2 missing /replies/0/r4"),
-    (2, r#"{"r3":0,"r4":0}"#, "2 missing /replies/0/fills"),
+    ("0,{}", "2 missing /replies/1/r3"),
+    (r#"{"r3":"0"}"#, "3 wrong-kind /replies/0/r3"),
+    (r#"{"r3":4294967296}"#, "4 out-of-range /replies/0/r3"),
+    (r#"{"r3":0}"#, "2 missing /replies/0/r4"),
+    (r#"{"r3":0,"r4":0}"#, "2 missing /replies/0/fills"),
     (
-        2,
         r#"{"r3":0,"r4":0,"fills":""}"#,
         "3 wrong-kind /replies/0/fills",
     ),
     (
-        2,
         r#"{"r3":0,"r4":0,"fills":[0]}"#,
         "3 wrong-kind /replies/0/fills/0",
     ),
     (
-        2,
         r#"{"r3":0,"r4":0,"fills":["","0"]}"#,
         "4 out-of-range /replies/0/fills/1",
     ),
     (
-        2,
         r#"{"r3":0,"r4":0,"fills":["0g"]}"#,
         "4 out-of-range /replies/0/fills/0",
     ),
     (
-        2,
         r#"{"r3":0,"r4":0,"fills":["","","","","","","",""]}"#,
         "replies",
     ),
     (
-        2,
         r#"{"r3":0,"r4":0,"fills":["","","","","","","","",7]}"#,
         "9 limit /replies/0/fills 8",
     ),
-    (2, r#""x""#, "3 wrong-kind /replies/0"),
+    (r#""x""#, "3 wrong-kind /replies/0"),
 ];
 
-pub fn replies() -> &'static [(u32, &'static str, &'static str)] {
-    &REPLIES
+static VALUES: [(&str, &str); 1] = [(
+    r#"-1,[1,2],{"r3":3,"r4":-4,"fills":["","0aF9"]}"#,
+    "ffffffff deadbeef deadbeef deadbeef Listed { kept: [] }; 1 2 deadbeef deadbeef Listed { kept: [] }; 3 fffffffc deadbeef deadbeef Listed { kept: [Listed { kept: [] }, Listed { kept: [10, 249] }] }; ",
+)];
+
+/// Each place beside its rows.
+pub fn rows_of(place: Place) -> &'static [(&'static str, &'static str)] {
+    match place {
+        Place::Text => &UNITS,
+        Place::Lists => &LISTS,
+        Place::Code => &CODES,
+        Place::Instruction => &INSTRUCTIONS,
+        Place::Init => &INITS,
+        Place::Signature1 => &SIGNATURES_1,
+        Place::Signature2 => &SIGNATURES_2,
+        Place::Buffers => &BUFFERS,
+        Place::ReplyText => &REPLY_TEXTS,
+        Place::Replies1 => &REPLIES_1,
+        Place::Replies2 => &REPLIES_2,
+        Place::Values => &VALUES,
+        Place::Functions | Place::Variables | Place::Externals | Place::Labels | Place::Fill => &[],
+    }
 }
 
-/// A place, and the number of items that stand there.
-static LIMITS: [(&str, u32, &str); 11] = [
-    ("functions", 65537, "9 limit /functions 65536"),
-    ("functions", 65536, "3 wrong-kind /functions/0"),
-    ("variables", 65537, "9 limit /variables 65536"),
-    ("externals", 65537, "9 limit /externals 65536"),
-    ("code", 65537, "9 limit /functions/0/code 65536"),
-    ("labels", 65537, "9 limit /functions/0/code/1/2 65536"),
-    ("init", 65537, "9 limit /variables/0/init 65536"),
-    ("replies", 65537, "9 limit /replies 65536"),
-    ("replies", 65536, "replies"),
-    ("fill", 65536, "replies"),
-    ("fill", 65537, "9 limit /replies/0/fills/0 65536"),
+static PLACES: [Place; 12] = [
+    Place::Text,
+    Place::Lists,
+    Place::Code,
+    Place::Instruction,
+    Place::Init,
+    Place::Signature1,
+    Place::Signature2,
+    Place::Buffers,
+    Place::ReplyText,
+    Place::Replies1,
+    Place::Replies2,
+    Place::Values,
 ];
 
-pub fn limits() -> &'static [(&'static str, u32, &'static str)] {
+/// The places that have rows.
+pub fn places() -> &'static [Place] {
+    &PLACES
+}
+
+/// A place, the number of items that stand there, and the answer.
+static LIMITS: [(Place, u32, &str); 11] = [
+    (Place::Functions, 65537, "9 limit /functions 65536"),
+    (Place::Functions, 65536, "3 wrong-kind /functions/0"),
+    (Place::Variables, 65537, "9 limit /variables 65536"),
+    (Place::Externals, 65537, "9 limit /externals 65536"),
+    (Place::Code, 65537, "9 limit /functions/0/code 65536"),
+    (Place::Labels, 65537, "9 limit /functions/0/code/1/2 65536"),
+    (Place::Init, 65537, "9 limit /variables/0/init 65536"),
+    (Place::Replies1, 65537, "9 limit /replies 65536"),
+    (Place::Replies1, 65536, "replies"),
+    (Place::Fill, 65536, "replies"),
+    (Place::Fill, 65537, "9 limit /replies/0/fills/0 65536"),
+];
+
+pub fn limits() -> &'static [(Place, u32, &'static str)] {
     &LIMITS
 }

@@ -14,54 +14,73 @@ use std::test::Fail;
 const SMALLEST: &str =
     "{\"externals\":[],\"functions\":[{\"code\":[[\"addi\",3,0,7],[\"blr\"]],\"name\":\"main\",\"static\":false}],\"unit\":\"a.c\",\"valex\":\"unit\",\"variables\":[],\"version\":1}";
 
-/// The smallest unit, with an external of this name if there is one.
-fn smallest(alloc: Global, external: Option<&str>) -> Result<Unit, Fail> {
+/// The function of the smallest unit, which returns 7.
+fn main_function(alloc: Global) -> Result<Function, Fail> {
     let r3 = Reg::new(3).ok_or("r3")?;
     let r0 = Reg::new(0).ok_or("r0")?;
     let addi = Instr::Plain(Plain::AluImm(AluImmOp::Addi, r3, r0, Const::Int(7)));
-    let blr = Instr::Plain(Plain::Jump(Jump::Blr));
-    let main = Function {
+    let code = vec![in alloc; addi, Instr::Plain(Plain::Jump(Jump::Blr))]?;
+    Ok(Function {
         name: Name::from_bytes(alloc, b"main")?,
         is_static: false,
-        code: Listed::from_vec(vec![in alloc; addi, blr]?),
-    };
-    let mut externals = Listed::new(alloc);
-    if let Some(name) = external {
-        let name = Name::from_bytes(alloc, name.as_bytes())?;
-        externals.push(External { name, sig: None })?;
-    }
-    Ok(Unit {
-        name: Name::from_bytes(alloc, b"a.c")?,
-        functions: Listed::from_vec(vec![in alloc; main]?),
-        variables: Listed::new(alloc),
-        externals,
+        code: Listed::from_vec(code),
     })
+}
+
+fn smallest(alloc: Global) -> Result<Unit, Fail> {
+    let name = Name::from_bytes(alloc, b"a.c")?;
+    let mut functions = Listed::new(alloc);
+    functions.push(main_function(alloc)?)?;
+    Ok(Unit {
+        name,
+        functions,
+        variables: Listed::new(alloc),
+        externals: Listed::new(alloc),
+    })
+}
+
+/// Whether a unit is valid, and is written as a text, as its tree is.
+fn is_written(alloc: Global, unit: &Unit, want: &str) -> Result<bool, Fail> {
+    if !valid_unit(unit) {
+        return Ok(false);
+    }
+    let bytes = write_unit(alloc, unit)?;
+    let tree = unit_value(alloc, unit)?.to_string(alloc)?;
+    Ok(bytes.as_slice() == want.as_bytes() && tree.as_str() == want)
+}
+
+fn is_written_in_version_2(alloc: Global, unit: &Unit, want: &str) -> Result<bool, Fail> {
+    if !valid_unit(unit) {
+        return Ok(false);
+    }
+    let bytes = write_unit_2(alloc, unit)?;
+    let tree = unit_value_2(alloc, unit)?.to_string(alloc)?;
+    Ok(bytes.as_slice() == want.as_bytes() && tree.as_str() == want)
 }
 
 #[test]
 fn the_smallest_unit(rt: HostRuntime) -> Result<(), Fail> {
     let alloc = rt.alloc();
-    let unit = smallest(alloc, None)?;
-    if !valid_unit(&unit) {
-        return Err(Fail::from("a valid unit"));
-    }
-    assert_eq!(rt; write_unit(alloc, &unit)?.as_slice(), SMALLEST.as_bytes());
-    let tree = unit_value(alloc, &unit)?;
-    assert_eq!(rt; tree.to_string(alloc)?.as_str(), SMALLEST);
+    let unit = smallest(alloc)?;
     let newest = SMALLEST.replace(alloc, "\"version\":1", "\"version\":2")?;
-    assert_eq!(rt; write_unit_2(alloc, &unit)?.as_slice(), newest.as_bytes());
-    let tree = unit_value_2(alloc, &unit)?;
-    assert_eq!(rt; tree.to_string(alloc)?.as_str(), newest.as_str());
+    let old = is_written(alloc, &unit, SMALLEST)?;
+    let new = is_written_in_version_2(alloc, &unit, newest.as_str())?;
+    assert_eq!(rt; (old, new), (true, true));
     Ok(())
+}
+
+fn is_valid_beside(alloc: Global, external: &str) -> Result<bool, Fail> {
+    let name = Name::from_bytes(alloc, external.as_bytes())?;
+    let mut unit = smallest(alloc)?;
+    unit.externals.push(External { name, sig: None })?;
+    Ok(valid_unit(&unit))
 }
 
 #[test]
 fn names_of_a_valid_unit(rt: HostRuntime) -> Result<(), Fail> {
-    let alloc = rt.alloc();
-    for (name, want) in [("other", true), ("main", false)] {
-        let unit = smallest(alloc, Some(name))?;
-        assert_eq!(rt; valid_unit(&unit), want);
-    }
+    let other = is_valid_beside(rt.alloc(), "other")?;
+    let main = is_valid_beside(rt.alloc(), "main")?;
+    assert_eq!(rt; (other, main), (true, false));
     Ok(())
 }
 
@@ -107,121 +126,219 @@ fn classes() -> &'static [(&'static str, &'static str)] {
 }
 
 /// A unit in a version with one function, one variable and these externals.
-fn text_of(
-    alloc: Global,
+#[derive(Clone, Copy)]
+struct Form<'a> {
     version: u32,
-    code: &str,
-    init: &str,
-    externals: &str,
-) -> Result<String, Fail> {
+    code: &'a str,
+    init: &'a str,
+    externals: &'a str,
+}
+
+fn text_of(alloc: Global, form: &Form) -> Result<String, Fail> {
     Ok(format!(in alloc;
-        "{{\"externals\":[{externals}],\"functions\":[{{\"code\":[{code}],\"name\":\"f\",\"static\":true}}],\"unit\":\"a.c\",\"valex\":\"unit\",\"variables\":[{{\"align\":16,\"init\":[{init}],\"name\":\"v\",\"static\":false,\"writable\":true}}],\"version\":{version}}}"
+        "{{\"externals\":[{}],\"functions\":[{{\"code\":[{}],\"name\":\"f\",\"static\":true}}],\"unit\":\"a.c\",\"valex\":\"unit\",\"variables\":[{{\"align\":16,\"init\":[{}],\"name\":\"v\",\"static\":false,\"writable\":true}}],\"version\":{}}}",
+        form.externals, form.code, form.init, form.version
     )?)
 }
 
-/// What is written for the unit that a text is. No unit that is read needs the test.
-fn rewritten(alloc: Global, text: &str) -> Result<Vec<u8>, Fail> {
+/// What is written for the unit that a text is, in its oldest version or in the newest. No unit that is read needs the test.
+fn rewritten(alloc: Global, text: &str, newest: bool) -> Result<Vec<u8>, Fail> {
     match read_unit(alloc, text.as_bytes()) {
+        Ok(unit) if newest => Ok(write_unit_2(alloc, &unit)?),
         Ok(unit) => Ok(write_unit(alloc, &unit)?),
         Err(_) => Err(Fail::from("a unit")),
     }
 }
 
-fn rewritten_2(alloc: Global, text: &str) -> Result<Vec<u8>, Fail> {
-    match read_unit(alloc, text.as_bytes()) {
-        Ok(unit) => Ok(write_unit_2(alloc, &unit)?),
-        Err(_) => Err(Fail::from("a unit")),
-    }
+/// Whether a text is written as another.
+fn is_rewritten(alloc: Global, text: &str, want: &str, newest: bool) -> Result<bool, Fail> {
+    let found = rewritten(alloc, text, newest)?;
+    Ok(found.as_slice() == want.as_bytes())
 }
 
-/// Each spelling is read and written.
-#[test]
-fn spellings(rt: HostRuntime) -> Result<(), Fail> {
-    let alloc = rt.alloc();
-    let mut count: u32 = 0;
-    for (operands, mnemonics) in classes() {
-        let comma = if operands.is_empty() { "" } else { "," };
-        for mnemonic in mnemonics.split(' ') {
-            let label = if mnemonic == "label" { 2 } else { 1 };
-            let code = format!(in alloc;
-                "[\"{mnemonic}\"{comma}{operands}],[\"label\",{label}],[\"blr\"]"
-            )?;
-            let text = text_of(alloc, 1, code.as_str(), "", "")?;
-            assert_eq!(rt;
-                rewritten(alloc, text.as_str())?.as_slice(),
-                text.as_bytes(),
-                "{mnemonic}"
-            );
-            count = count.wrapping_add(1);
+/// Whether an instruction is written as it is read.
+fn is_kept(alloc: Global, mnemonic: &str, operands: &str) -> Result<bool, Fail> {
+    let comma = if operands.is_empty() { "" } else { "," };
+    let label = if mnemonic == "label" { 2 } else { 1 };
+    let code = format!(in alloc;
+        "[\"{mnemonic}\"{comma}{operands}],[\"label\",{label}],[\"blr\"]"
+    )?;
+    let form = Form {
+        version: 1,
+        code: code.as_str(),
+        init: "",
+        externals: "",
+    };
+    let text = text_of(alloc, &form)?;
+    is_rewritten(alloc, text.as_str(), text.as_str(), false)
+}
+
+/// The spellings among these that are written as they are read.
+fn kept_of(alloc: Global, mnemonics: &str, operands: &str) -> Result<String, Fail> {
+    let mut kept = String::new(alloc);
+    for mnemonic in mnemonics.split(' ') {
+        if is_kept(alloc, mnemonic, operands)? {
+            kept.push_str(" ")?;
+            kept.push_str(mnemonic)?;
         }
     }
-    assert_eq!(rt; count, 93);
+    Ok(kept)
+}
+
+fn count_of_spellings() -> usize {
+    let mut count: usize = 0;
+    for (_, mnemonics) in classes() {
+        count = count.wrapping_add(mnemonics.split(' ').count());
+    }
+    count
+}
+
+#[test]
+fn each_spelling_is_kept(rt: HostRuntime) -> Result<(), Fail> {
+    for (operands, mnemonics) in classes() {
+        let kept = kept_of(rt.alloc(), mnemonics, operands)?;
+        assert_eq!(rt; kept.as_str().trim_start(), *mnemonics);
+    }
+    assert_eq!(rt; count_of_spellings(), 93);
     Ok(())
 }
 
-static INIT: &str =
+const INIT: &str =
     "[\"i8\",255],[\"i16\",65535],[\"i32\",4294967295],[\"bytes\",\"00ff\"],[\"space\",16777000],[\"addr\",\"f\",-1]";
 
-static EXTERNALS: &str =
+const EXTERNALS: &str =
     "{\"name\":\"e\",\"sig\":{\"args\":[\"w\",\"l\"],\"result\":\"l\"}},{\"name\":\"w\",\"sig\":{\"args\":[],\"result\":\"w\"}},{\"name\":\"n\",\"sig\":{\"args\":[\"l\"],\"result\":\"none\"}},{\"name\":\"x\",\"sig\":null}";
 
 /// Version 2: without buffers, and with each form of a buffer.
-static PLAIN: &str =
+const PLAIN: &str =
     "{\"name\":\"e\",\"sig\":{\"args\":[\"w\"],\"buffers\":[],\"result\":\"none\"}},{\"name\":\"x\",\"sig\":null}";
 
-static BUFFERS: &str =
+const BUFFERS: &str =
     "{\"name\":\"e\",\"sig\":{\"args\":[\"w\",\"l\",\"w\"],\"buffers\":[[\"in\",0,0],[\"out\",2,65536],[\"in\",2,[\"arg\",0]],[\"out\",0,[\"arg\",2]],[\"in\",0,1],[\"in\",0,2],[\"in\",0,3],[\"in\",0,4]],\"result\":\"w\"}},{\"name\":\"x\",\"sig\":{\"args\":[],\"buffers\":[],\"result\":\"none\"}}";
+
+/// Units, and what is written for each.
+static FORMS: [(Form<'static>, Form<'static>); 4] = [
+    (
+        Form {
+            version: 1,
+            code: "[\"blr\"]",
+            init: INIT,
+            externals: EXTERNALS,
+        },
+        Form {
+            version: 1,
+            code: "[\"blr\"]",
+            init: INIT,
+            externals: EXTERNALS,
+        },
+    ),
+    // numbers that are read modulo their size, digits of both cases, and marks with further items
+    (
+        Form {
+            version: 1,
+            code: "[\"imm\",3,-1],[\"cfi\",\"x\",1.5],[\"annot\",[]]",
+            init: "[\"i8\",-128],[\"i16\",-1],[\"i32\",-2147483648],[\"bytes\",\"AbCd\"]",
+            externals: "",
+        },
+        Form {
+            version: 1,
+            code: "[\"imm\",3,4294967295],[\"cfi\"],[\"annot\"]",
+            init: "[\"i8\",128],[\"i16\",65535],[\"i32\",2147483648],[\"bytes\",\"abcd\"]",
+            externals: "",
+        },
+    ),
+    (
+        Form {
+            version: 2,
+            code: "[\"blr\"]",
+            init: "",
+            externals: BUFFERS,
+        },
+        Form {
+            version: 2,
+            code: "[\"blr\"]",
+            init: "",
+            externals: BUFFERS,
+        },
+    ),
+    // version 2 without a buffer is written in version 1
+    (
+        Form {
+            version: 2,
+            code: "[\"blr\"]",
+            init: "",
+            externals: PLAIN,
+        },
+        Form {
+            version: 1,
+            code: "[\"blr\"]",
+            init: "",
+            externals: "{\"name\":\"e\",\"sig\":{\"args\":[\"w\"],\"result\":\"none\"}},{\"name\":\"x\",\"sig\":null}",
+        },
+    ),
+];
+
+fn forms() -> &'static [(Form<'static>, Form<'static>)] {
+    &FORMS
+}
+
+/// Units that the newest version keeps.
+static NEWEST: [Form<'static>; 2] = [
+    Form {
+        version: 2,
+        code: "[\"blr\"]",
+        init: INIT,
+        externals: PLAIN,
+    },
+    Form {
+        version: 2,
+        code: "[\"blr\"]",
+        init: INIT,
+        externals: BUFFERS,
+    },
+];
+
+fn newest() -> &'static [Form<'static>] {
+    &NEWEST
+}
+
+/// Whether a unit is written in a form, and that form as itself.
+fn are_written(alloc: Global, form: &Form, want: &Form) -> Result<(bool, bool), Fail> {
+    let text = text_of(alloc, form)?;
+    let want = text_of(alloc, want)?;
+    Ok((
+        is_rewritten(alloc, text.as_str(), want.as_str(), false)?,
+        is_rewritten(alloc, want.as_str(), want.as_str(), false)?,
+    ))
+}
+
+fn is_kept_in_version_2(alloc: Global, form: &Form) -> Result<bool, Fail> {
+    let text = text_of(alloc, form)?;
+    is_rewritten(alloc, text.as_str(), text.as_str(), true)
+}
 
 #[test]
 fn data_and_externals(rt: HostRuntime) -> Result<(), Fail> {
-    let alloc = rt.alloc();
-    let blr = "[\"blr\"]";
-    let marks = "[\"imm\",3,-1],[\"cfi\",\"x\",1.5],[\"annot\",[]]";
-    let numbers = "[\"i8\",-128],[\"i16\",-1],[\"i32\",-2147483648],[\"bytes\",\"AbCd\"]";
-    let table = [
-        ((1, blr, INIT, EXTERNALS), (1, blr, INIT, EXTERNALS)),
-        // numbers that are read modulo their size, digits of both cases, and marks with further items
-        (
-            (1, marks, numbers, ""),
-            (
-                1,
-                "[\"imm\",3,4294967295],[\"cfi\"],[\"annot\"]",
-                "[\"i8\",128],[\"i16\",65535],[\"i32\",2147483648],[\"bytes\",\"abcd\"]",
-                "",
-            ),
-        ),
-        ((2, blr, "", BUFFERS), (2, blr, "", BUFFERS)),
-        // version 2 without a buffer is written in version 1
-        (
-            (2, blr, "", PLAIN),
-            (
-                1,
-                blr,
-                "",
-                "{\"name\":\"e\",\"sig\":{\"args\":[\"w\"],\"result\":\"none\"}},{\"name\":\"x\",\"sig\":null}",
-            ),
-        ),
-    ];
-    for (
-        (version, code, init, externals),
-        (want_version, want_code, want_init, want_externals),
-    ) in table {
-        let text = text_of(alloc, version, code, init, externals)?;
-        let want = text_of(alloc, want_version, want_code, want_init, want_externals)?;
+    for (form, want) in forms() {
         assert_eq!(rt;
-            rewritten(alloc, text.as_str())?.as_slice(),
-            want.as_bytes()
-        );
-        assert_eq!(rt;
-            rewritten(alloc, want.as_str())?.as_slice(),
-            want.as_bytes()
+            are_written(rt.alloc(), form, want)?,
+            (true, true),
+            "{} {}",
+            form.init,
+            form.externals
         );
     }
-    for externals in [PLAIN, BUFFERS] {
-        let text = text_of(alloc, 2, blr, INIT, externals)?;
+    Ok(())
+}
+
+#[test]
+fn data_and_externals_in_version_2(rt: HostRuntime) -> Result<(), Fail> {
+    for form in newest() {
         assert_eq!(rt;
-            rewritten_2(alloc, text.as_str())?.as_slice(),
-            text.as_bytes()
+            is_kept_in_version_2(rt.alloc(), form)?,
+            true,
+            "{}",
+            form.externals
         );
     }
     Ok(())

@@ -28,7 +28,8 @@ bytes_run v base a (suc m) zero le h = absurd (omega arith)
 bytes_run v base a (suc m) (suc n) le h =
     let s : suc n - suc m ≡ n - m = omega arith in
     let t : a + suc m ≡ a + 1 + m = omega arith in
-    rw (s, t) (rw (h a (omega arith) (omega arith)) (bytes_run v base (a + 1) m n (omega arith) (λ b low high. h b (omega arith) (omega arith))))
+    rw (s, t) (rw (h a (omega arith) (omega arith))
+    (bytes_run v base (a + 1) m n (omega arith) (λ b low high. h b (omega arith) (omega arith))))
 
 -- the bytes of a segment that may run, from one of them on
 pub segment_runs : (v : Image) (s : Segment) (base a end : ℕ) (whole : Option Spot) → IsLoadable v → segment_of v a ≡ Some s →

@@ -1,5 +1,6 @@
 -- Code, one instruction further.
-use Rattle.std.proofs.Common.{append_assoc, ◌≡◌, ℕ, zero, suc, ◌+◌, ◌-◌, ◌*◌, ◌<◌, ◌≤◌, inl, inr, Bool, true, false, List, [], ◌∷◌, ◌++◌, length, take, drop, get_or, Option, Some, None, refl, sym, ◌∙◌, ap, subst, arith}
+use Rattle.std.proofs.Common.{append_assoc, ◌≡◌, ℕ, zero, suc, ◌+◌, ◌-◌, ◌*◌, ◌<◌, ◌≤◌, inl, inr, Bool, true, false, List, [], ◌∷◌, ◌++◌}
+use Rattle.std.proofs.Common.{length, take, drop, get_or, Option, Some, None, refl, sym, ◌∙◌, ap, subst, arith}
 use Rattle.std.specs.Prelude.{◌==◌, nat_le, if◌then◌else◌, slice_get}
 use Rattle.std.specs.List.{list_all}
 use Rattle.std.specs.Option.{option_or, option_map_or}
@@ -254,7 +255,8 @@ pub place_fails : (v : Image) (l : Layout) (symbol_at : List ℕ → ℕ) (base 
     first_fault (function_checks v l symbol_at base code) ≡ Some f
 unfolding function_checks
 place_fails v l symbol_at base end code place f e p s =
-    first_fault_before (place_checks v l base (code_end v base code)) (code_checks v l symbol_at (label_address v base code) base base code) f
+    first_fault_before (place_checks v l base (code_end v base code))
+    (code_checks v l symbol_at (label_address v base code) base base code) f
     (ap (λ b. first_fault (place_checks v l base b)) (sym e) ∙ sym p ∙ s)
 
 -- behind a right place the words and the tables decide

@@ -129,11 +129,14 @@ fn match_code<N: NameAddresses>(
     requires tables { list_all table_fits standing.now.code.now ≡ true }
     requires end { code_end standing.now.words standing.now.base standing.now.code.now < 2 ^ 32 }
     ensures passes { IfOk result (λ _. first_fault (code_checks standing.now.words layout.now (N.address names.now)
-        (label_address standing.now.words standing.now.base standing.now.code.now) standing.now.base standing.now.base standing.now.code.now) ≡ None) }
+        (label_address standing.now.words standing.now.base standing.now.code.now) standing.now.base standing.now.base
+        standing.now.code.now) ≡ None) }
     ensures claims { IfOk result (λ tables. (owner_at : ℕ → Owner) →
-        map (table_claim owner_at) tables ≡ table_claims standing.now.words owner_at standing.now.base standing.now.base standing.now.code.now) }
+        map (table_claim owner_at) tables ≡ table_claims standing.now.words owner_at standing.now.base standing.now.base
+        standing.now.code.now) }
     ensures fails { IfErr result (Tells (first_fault (code_checks standing.now.words layout.now (N.address names.now)
-        (label_address standing.now.words standing.now.base standing.now.code.now) standing.now.base standing.now.base standing.now.code.now))) }
+        (label_address standing.now.words standing.now.base standing.now.code.now) standing.now.base standing.now.base
+        standing.now.code.now))) }
 {
     let mut tables = TableList::new(alloc);
     for (i, instr) in standing.code.code().iter().enumerate() {

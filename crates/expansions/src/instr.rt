@@ -7,7 +7,8 @@ ghost use Rattle.isa_model.specs.Operands.{is_s16};
 ghost use Rattle.isa_model.specs.Instructions.{addi_place, addis_place, ori_place};
 ghost use Rattle.ppc_decode.specs.declared.machine.Machine.TheVariants as machine;
 ghost use Rattle.code_model.specs.declared.gap.Gap.TheVariants.{Closed, Free};
-ghost use Rattle.code_model.specs.Forms.{instr_length, forms, plain_form, alloc_forms, free_forms, word_forms, branch_forms, table_forms, bit_forms, near, far, is_bc};
+ghost use Rattle.code_model.specs.Forms.{instr_length, forms, plain_form, alloc_forms, free_forms, word_forms, branch_forms, table_forms};
+ghost use Rattle.code_model.specs.Forms.{bit_forms, near, far, is_bc};
 ghost use Rattle.code_model.specs.Spelling.{first_word};
 ghost use Rattle.code_model.specs.WordChecks.{words_checks, shape_of};
 
@@ -186,7 +187,8 @@ fn branch_fault(
     requires len { length words.now ≡ (if is_bc over (first_word words.now) then 2 else 1) }
     requires offset { offset + 4 * length words.now < 2 ^ 32 }
     requires at { at + 4 * length words.now < 2 ^ 32 }
-    ensures { result ≡ first_fault (words_checks layout.now offset at (branch_forms here over bit target (first_word words.now)) words.now) }
+    ensures { result ≡ first_fault
+        (words_checks layout.now offset at (branch_forms here over bit target (first_word words.now)) words.now) }
 {
     match words {
         [w] => words_fault(

@@ -1,5 +1,6 @@
 -- The tests of binding against the places of the keys.
-use Rattle.std.proofs.Common.{◌≡◌, ℕ, zero, suc, ◌+◌, ◌<◌, Bool, true, false, List, [], ◌∷◌, ◌++◌, length, map, Option, Some, None, refl, sym, ap, ◌∙◌, subst, arith, inl, inr, if◌then◌else◌}
+use Rattle.std.proofs.Common.{◌≡◌, ℕ, zero, suc, ◌+◌, ◌<◌, Bool, true, false, List, [], ◌∷◌, ◌++◌, length, map, Option, Some, None, refl}
+use Rattle.std.proofs.Common.{sym, ap, ◌∙◌, subst, arith, inl, inr, if◌then◌else◌}
 use Rattle.std.specs.Prelude.{Err, slice_get, is_some, not, ◌||◌, ◌&&◌, ◌==◌, option_map}
 use Rattle.std.specs.List.{list_all, flat_map, enumerate_from}
 use Rattle.std.proofs.lemmas.Bool.{and_parts, cases_Bool}
@@ -47,7 +48,8 @@ abbrev places_of : Inputs → List Use → ℕ × Declaration → List (Check Fa
 places_of g uses k = map (at_key g k.1) (tests_of g uses k)
 
 first_at_key : (g : Inputs) (d : Declaration) (cs : List (Check Spot))
-    → first_fault (map (at_key g d) cs) ≡ option_map (λ (s : Spot). fault_at (unit_name g.program.units d.unit) (name_of d) s None) (first_fault cs)
+    → first_fault (map (at_key g d) cs)
+    ≡ option_map (λ (s : Spot). fault_at (unit_name g.program.units d.unit) (name_of d) s None) (first_fault cs)
 first_at_key g d [] = refl
 first_at_key g d (c ∷ cs) = elim (cases_Bool c.passes) [ inl t ↦ rw t (first_at_key g d cs) | inr f ↦ rw f refl ]
 
@@ -152,7 +154,8 @@ unbound_key g (NoneFits k) h = names_key g (NoneFits k) h
 unbound_key g (SeveralFit k n) h = names_key g (SeveralFit k n) h
 unbound_key g Memory h = tt
 
-told_is : (total : Option Fault) (fault : Fault) (e : CheckFault) → total ≡ Some fault → IsNoOf fault e → Decides {T = Unit {0}} total (Err e)
+told_is : (total : Option Fault) (fault : Fault) (e : CheckFault) → total ≡ Some fault → IsNoOf fault e
+    → Decides {T = Unit {0}} total (Err e)
 told_is total fault (No f) first is = first ∙ ap Some (sym is)
 told_is total fault checks.Memory first is = tt
 
@@ -164,11 +167,13 @@ told_unbound : (g : Inputs) (f : BindFault) (e : CheckFault) → first_fault (bi
     → Decides {T = Unit {0}} (first_fault (bound_pass g)) (Err e)
 told_unbound g f e h t =
     let u = bind_fails g f h in
-    told_is (first_fault (bound_pass g)) (fault_at (unit_name g.program.units u.key.unit) (name_of u.key) (spot_of f) None) e u.first (t u.key u.at)
+    told_is (first_fault (bound_pass g)) (fault_at (unit_name g.program.units u.key.unit) (name_of u.key) (spot_of f) None)
+    e u.first (t u.key u.at)
 
 pub told_first : (g : Inputs) (f : BindFault) (e : CheckFault) → IsFirstUnbound g f → IsToldBy g.program.units f e
     → Decides {T = Unit {0}} (first_fault (bound_pass g)) (Err e)
 told_first g (NoSymbol k) e h t = told_unbound g (NoSymbol k) e h t
 told_first g (NoneFits k) e h t = told_unbound g (NoneFits k) e h t
 told_first g (SeveralFit k n) e h t = told_unbound g (SeveralFit k n) e h t
-told_first g Memory e h t = let P : CheckFault → Type 0 = λ x. Decides {T = Unit {0}} (first_fault (bound_pass g)) (Err x) in subst P (sym t) tt
+told_first g Memory e h t = let P : CheckFault → Type 0 = λ x. Decides {T = Unit {0}} (first_fault (bound_pass g)) (Err x) in
+    subst P (sym t) tt

@@ -14,7 +14,8 @@ use Rattle.key_passes.specs.declared.fault.CheckFault.TheVariants.{No, Memory}
 use Rattle.key_passes.specs.Answers.{Decides}
 
 -- no place of the first pass fails
-pub decides_after : {T : Type 0} (xs ys : List (Check Fault)) (r : Result T CheckFault) → (let none : Option Fault = None in first_fault xs ≡ none)
+pub decides_after : {T : Type 0} (xs ys : List (Check Fault)) (r : Result T CheckFault)
+    → (let none : Option Fault = None in first_fault xs ≡ none)
     → Decides (first_fault ys) r → Decides (first_fault (xs ++ ys)) r
 decides_after xs ys (Ok x) none d = first_fault_after xs ys none ∙ d
 decides_after xs ys (Err (No f)) none d = first_fault_after xs ys none ∙ d

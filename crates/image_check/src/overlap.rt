@@ -7,7 +7,7 @@ ghost use Rattle.link_model.specs.Overlaps.{in_order, overlap_fault, overlap_pas
 ghost use Rattle.coverage.specs.Orders.{claim_seen};
 ghost use Rattle.key_passes.specs.Answers.{Decides};
 
-use crate::owners::{copied, owner_names};
+use crate::owners::owner_names;
 use asm_syntax::rule::Rule;
 use coverage::claims::{Claims, Meeting};
 use key_passes::fault::CheckFault;
@@ -20,7 +20,7 @@ fn meeting_fault(alloc: Global, meeting: &Meeting) -> Result<Fault, AllocError>
     ensures { IfOk result (λ f. f ≡ overlap_fault (claim_seen meeting.now.before.now) (claim_seen meeting.now.claim.now)) }
 {
     let (unit, name) = owner_names(alloc, &meeting.claim.owner)?;
-    let other = copied(alloc, &meeting.before.owner)?;
+    let other = meeting.before.owner.copy(alloc)?;
     Ok(Fault {
         rule: Rule::Overlap,
         unit,

@@ -1,4 +1,4 @@
-//! Copies of owners, and their names.
+//! The names that owners tell.
 
 ghost use Rattle.std.specs.Prelude.{◌≡◌, IfOk};
 ghost use Rattle.link_model.specs.Overlaps.{owner_names};
@@ -7,20 +7,6 @@ use asm_syntax::name::Name;
 use key_passes::fault::no_name;
 use link_model::owner::Owner;
 use std::alloc::{AllocError, Global};
-
-pub fn copied(alloc: Global, owner: &Owner) -> Result<Owner, AllocError>
-    ensures { IfOk result (λ o. o ≡ owner.now) }
-{
-    match owner {
-        Owner::Function(unit, name) => Ok(Owner::Function(unit.copy(alloc)?, name.copy(alloc)?)),
-        Owner::Table(unit, name, offset) => {
-            Ok(Owner::Table(unit.copy(alloc)?, name.copy(alloc)?, *offset))
-        }
-        Owner::Variable(unit, name) => Ok(Owner::Variable(unit.copy(alloc)?, name.copy(alloc)?)),
-        Owner::Padding => Ok(Owner::Padding),
-        Owner::Foreign => Ok(Owner::Foreign),
-    }
-}
 
 /// The names of the unit and of what stands in it.
 pub fn owner_names(alloc: Global, owner: &Owner) -> Result<(Name, Name), AllocError>

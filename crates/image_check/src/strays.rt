@@ -43,7 +43,8 @@ pub fn stray_pass(
     layout: &Layout,
 ) -> Result<Account, CheckFault>
     requires settled { in_order claims.now ≡ claims.now }
-    ensures places { (cs : List model.Claim) → claims.now ≡ in_order cs → Decides (first_fault (stray_pass segments.now layout.now cs)) result }
+    ensures places { (cs : List model.Claim) → claims.now ≡ in_order cs
+        → Decides (first_fault (stray_pass segments.now layout.now cs)) result }
     ensures account { (cs : List model.Claim) → claims.now ≡ in_order cs → model.Apart cs →
         IfOk result (λ a. account_seen a ≡ account segments.now layout.now cs 0) }
 {

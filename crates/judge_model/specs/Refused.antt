@@ -5,7 +5,7 @@ use Rattle.layout_file.specs.Errors as layout_errors
 use Rattle.layout_file.specs.LayoutFile as layouts
 use Rattle.dump_reader.specs.DumpFile as dumps
 use Rattle.link_model.specs.declared.link_error.LinkError.{LinkError}
-use Rattle.link_model.specs.declared.link_error.LinkError.TheVariants as links
+use Rattle.asm_program.specs.Faults as links
 use Rattle.judge_model.specs.declared.refusal.Refusal.{Refusal}
 use Rattle.judge_model.specs.declared.refusal.Refusal.TheVariants.{Layout, Image, Unit, Replies, Link, Entry}
 
@@ -19,8 +19,7 @@ pub data Refused : Type 0 where
   OfEntry : List ℕ → Refused
 
 abbrev pub link_told : ℕ → List ℕ → LinkError → Option Refused
-link_told u name links.Memory = None
-link_told u name e = Some (OfLink u name e)
+link_told u name e = option_map (OfLink u name) (links.told e)
 
 abbrev pub told : Refusal → Option Refused
 told (Layout e) = option_map OfLayout (layout_errors.told e)

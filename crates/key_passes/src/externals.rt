@@ -71,7 +71,8 @@ fn place_external<P: KeyedProgram>(
     unit: u32,
     external: &External,
 ) -> Result<(), CheckFault>
-    requires key { slice_get (keys (P.program bound.now.program.now).units) k ≡ Some (record { unit = unit; item = OfExternal external.now }) }
+    requires key { slice_get (keys (P.program bound.now.program.now).units) k
+        ≡ Some (record { unit = unit; item = OfExternal external.now }) }
     requires unit { unit < length (P.program bound.now.program.now).units }
     requires seen { let g = given bound.now.segments.now bound.now.layout.now (P.program bound.now.program.now) in
         AreSeen g bound.now.addresses.now k (contains nat_cmp seen.old) }

@@ -84,7 +84,8 @@ fn place_variable<P: KeyedProgram>(
     unit: u32,
     variable: &Variable,
 ) -> Result<(), CheckFault>
-    requires key { slice_get (keys (P.program bound.now.program.now).units) k ≡ Some (record { unit = unit; item = OfVariable variable.now }) }
+    requires key { slice_get (keys (P.program bound.now.program.now).units) k
+        ≡ Some (record { unit = unit; item = OfVariable variable.now }) }
     requires unit { unit < length (P.program bound.now.program.now).units }
     requires size { variable_size variable.now.init ≤ MOST_VARIABLE_BYTES }
     ensures places { let g = given bound.now.segments.now bound.now.layout.now (P.program bound.now.program.now) in

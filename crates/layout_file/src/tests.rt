@@ -3,13 +3,12 @@
 use crate::error::LayoutError;
 use crate::layout::Layout;
 use crate::read_layout;
-use asm_syntax::name::Name;
+use asm_syntax::name::{Name, NameError};
 use asm_syntax::path::Step;
-use layout_model::kind::AreaKind;
 use std::alloc::{AllocError, Global};
 use std::test::*;
 
-static LAYOUT: &str =
+const LAYOUT: &str =
     r#"{"valex":"layout","version":1,"entry":"main","stop":"0x10000000","stack":["0x20000000","0x20010000"],"r13":"0x10038000","r2":268730368,"areas":[{"name":"text","range":["0x10010000","0x10011000"],"kind":"code"}],"foreign":[["0x10020000","0x10020100"]],"pins":[{"unit":"a.c","name":"h","address":"0x10018000"},{"unit":null,"name":"h","address":268533768}]}"#;
 
 /// The text, which proofs need not see.
@@ -55,12 +54,12 @@ fn steps_of(error: &LayoutError) -> &[Step] {
     }
 }
 
-/// The numbers of the ranges that meet, or the limit.
-fn numbers_of(error: &LayoutError) -> (u32, u32) {
+/// The numbers of the ranges that meet, or the limit, each behind a space.
+fn detail_of(alloc: Global, error: &LayoutError) -> Result<String, AllocError> {
     match error {
-        LayoutError::RangeMeets(earlier, later) => (*earlier, *later),
-        LayoutError::Limit(_, limit) => (*limit, 0),
-        _ => (0, 0),
+        LayoutError::RangeMeets(earlier, later) => format!(in alloc; " {earlier} {later}"),
+        LayoutError::Limit(_, limit) => format!(in alloc; " {limit}"),
+        _ => Ok(String::new(alloc)),
     }
 }
 
@@ -71,76 +70,121 @@ fn step_text(alloc: Global, step: &Step) -> Result<String, AllocError> {
     }
 }
 
-/// The number of an error, its word and its path.
+/// The number of an error, its word, its path and its detail.
 fn told(alloc: Global, error: &LayoutError) -> Result<String, AllocError> {
     let mut text = format!(in alloc; "{} {}", error.number(), word_of(error))?;
     for step in steps_of(error) {
         text.push_str(step_text(alloc, step)?.as_str())?;
     }
+    text.push_str(detail_of(alloc, error)?.as_str())?;
     Ok(text)
 }
 
-/// What an answer is, as a text.
-fn answer(alloc: Global, text: &[u8]) -> Result<String, AllocError> {
-    match &read_layout(alloc, text) {
-        Ok(_) => String::from_str(alloc, "ok"),
-        Err(error) => told(alloc, error),
+fn members_of(alloc: Global, layout: &Layout) -> Result<String, AllocError> {
+    let stack = layout.stack();
+    format!(in alloc;
+        "{} {:x} {:x} {:x} {:x} {:x}",
+        layout.entry().text(),
+        layout.stop(),
+        stack.lo,
+        stack.hi,
+        layout.r13(),
+        layout.r2()
+    )
+}
+
+/// The kind of the first area, and the first area and the first foreign range, each after how many there are.
+fn first_ranges(alloc: Global, layout: &Layout) -> Result<String, AllocError> {
+    if layout.areas() == 0 || layout.foreign() == 0 {
+        return String::from_str(alloc, "none");
+    }
+    let area = layout.area(0);
+    format!(in alloc;
+        "{:?}; {} {:x} {} {:x}",
+        area.kind,
+        layout.areas(),
+        area.range.lo,
+        layout.foreign(),
+        layout.foreign_range(0).hi
+    )
+}
+
+/// What holds the last address of a range, and the one behind it.
+fn holders_of(alloc: Global, layout: &Layout) -> Result<String, AllocError> {
+    format!(in alloc;
+        "{:?} {:?} {} {}",
+        layout.area_of(0x1001_0fff),
+        layout.area_of(0x1001_1000),
+        layout.is_foreign(0x1002_00ff),
+        layout.is_foreign(0x1002_0100)
+    )
+}
+
+/// The address that the name `h` is pinned to in a unit, or as a global name.
+fn pin_of(alloc: Global, layout: &Layout, unit: Option<&[u8]>) -> Result<Option<u32>, NameError> {
+    let name = Name::from_bytes(alloc, b"h")?;
+    match unit {
+        Some(unit) => Ok(layout.pin(Some(&Name::from_bytes(alloc, unit)?), &name)),
+        None => Ok(layout.pin(None, &name)),
     }
 }
 
-fn numbers(alloc: Global, text: &[u8]) -> (u32, u32) {
+fn pins_of(alloc: Global, layout: &Layout) -> Result<String, Fail> {
+    let own = pin_of(alloc, layout, Some(b"a.c"))?;
+    let global = pin_of(alloc, layout, None)?;
+    let other = pin_of(alloc, layout, Some(b"b.c"))?;
+    Ok(format!(in alloc; "{own:?} {global:?} {other:?}")?)
+}
+
+/// The kind of the first area, and then all that a layout answers.
+fn shown(alloc: Global, layout: &Layout) -> Result<String, Fail> {
+    let members = members_of(alloc, layout)?;
+    let ranges = first_ranges(alloc, layout)?;
+    let holders = holders_of(alloc, layout)?;
+    let pins = pins_of(alloc, layout)?;
+    Ok(format!(in alloc; "ok {ranges}; {members}; {holders}; {pins}")?)
+}
+
+/// What an answer is, as a text.
+fn answer(alloc: Global, text: &[u8]) -> Result<String, Fail> {
     match &read_layout(alloc, text) {
-        Ok(_) => (0, 0),
-        Err(error) => numbers_of(error),
+        Ok(layout) => shown(alloc, layout),
+        Err(error) => Ok(told(alloc, error)?),
     }
+}
+
+/// The answer to the layout with one part of it in another form.
+fn answer_to(alloc: Global, old: &str, new: &str) -> Result<String, Fail> {
+    let text = with_part(alloc, old, new)?;
+    answer(alloc, text.as_bytes())
 }
 
 #[test]
 fn a_layout_answers(rt: HostRuntime) -> Result<(), Fail> {
-    let alloc = rt.alloc();
-    let layout = read_layout(alloc, layout_text().as_bytes())
-        .ok()
-        .ok_or("a layout")?;
-    let unit = Name::from_bytes(alloc, b"a.c").ok().ok_or("a name")?;
-    let other = Name::from_bytes(alloc, b"b.c").ok().ok_or("a name")?;
-    let name = Name::from_bytes(alloc, b"h").ok().ok_or("a name")?;
-    assert_eq!(rt; layout.entry().text(), "main");
-    assert_eq!(rt; layout.stop(), 0x1000_0000);
-    assert_eq!(rt; layout.stack().lo, 0x2000_0000);
-    assert_eq!(rt; layout.stack().hi, 0x2001_0000);
-    assert_eq!(rt; (layout.r13(), layout.r2()), (0x1003_8000, 0x1004_8000));
-    assert_eq!(rt; (layout.areas(), layout.foreign()), (1, 1));
     assert_eq!(rt;
-        (layout.area_of(0x1001_0fff), layout.area_of(0x1001_1000)),
-        (Some(0), None)
+        answer(rt.alloc(), layout_text().as_bytes())?.as_str(),
+        "ok Code; 1 10010000 1 10020100; main 10000000 20000000 20010000 10038000 10048000; Some(0) None true false; Some(268533760) Some(268533768) None"
     );
-    assert_eq!(rt;
-        (
-            layout.is_foreign(0x1002_00ff),
-            layout.is_foreign(0x1002_0100)
-        ),
-        (true, false)
-    );
-    assert_eq!(rt; layout.pin(Some(&unit), &name), Some(0x1001_8000));
-    assert_eq!(rt; layout.pin(None, &name), Some(0x1001_8008));
-    assert_eq!(rt; layout.pin(Some(&other), &name), None);
-    if layout.areas() == 1 && layout.foreign() == 1 {
-        assert_eq!(rt;
-            (layout.area(0).range.lo, layout.area(0).kind),
-            (0x1001_0000, AreaKind::Code)
-        );
-        assert_eq!(rt; layout.foreign_range(0).hi, 0x1002_0100);
-    }
     Ok(())
 }
 
-/// A part of the layout, what stands in its place, and the answer.
-static PARTS: [(&str, &str, &str); 51] = [
-    ("{", "{", "ok"),
+#[test]
+fn bytes_that_are_no_text(rt: HostRuntime) -> Result<(), Fail> {
+    assert_eq!(rt; answer(rt.alloc(), b"\"\xff\"")?.as_str(), "1 not-json");
+    Ok(())
+}
+
+/// A part of the layout, what stands in its place, and the answer up to the kind of the first area.
+static PARTS: [(&str, &str, &str); 57] = [
+    ("{", "{", "ok Code"),
     (r#""0x20010000""#, r#""0x20010008""#, "9 unaligned/stack"),
     (r#""0x20010000""#, r#""0x20000008""#, "7 range-order/stack"),
-    (r#""0x20010000""#, r#""0x21000018""#, "11 limit/stack"),
-    (r#""0x20010000""#, r#""0x21000000""#, "ok"),
+    (
+        r#""0x20010000""#,
+        r#""0x21000018""#,
+        "11 limit/stack 16777216",
+    ),
+    (r#""0x20010000""#, r#""0x21000000""#, "ok Code"),
     (
         r#""0x20010000"]"#,
         r#""0x20010000",0]"#,
@@ -152,13 +196,13 @@ static PARTS: [(&str, &str, &str); 51] = [
         "4 out-of-range/stack/0",
     ),
     (r#""0x10000000""#, r#""0xffffffee""#, "7 range-order/stop"),
-    (r#""0x10000000""#, r#""0xFFFFFFEC""#, "ok"),
+    (r#""0x10000000""#, r#""0xFFFFFFEC""#, "ok Code"),
     (r#""0x10000000""#, "0", "7 range-order/stop"),
-    (r#""0x10011000""#, r#""0xfffffff0""#, "8 range-meets"),
+    (r#""0x10011000""#, r#""0xfffffff0""#, "8 range-meets 0 1"),
     (
         r#"["0x10010000","0x10011000"]"#,
         r#"["0xffffff00","0xfffffff0"]"#,
-        "ok",
+        "ok Code",
     ),
     (
         r#"["0x10010000","0x10011000"]"#,
@@ -168,7 +212,7 @@ static PARTS: [(&str, &str, &str); 51] = [
     (
         r#"["0x10010000","0x10011000"]"#,
         r#"["0x10010000","0x10010001"]"#,
-        "ok",
+        "ok Code",
     ),
     (
         r#"["0x10020000","0x10020100"]"#,
@@ -193,12 +237,12 @@ static PARTS: [(&str, &str, &str); 51] = [
     (
         r#"["0x10020000","0x10020100"]"#,
         "[268566528,268566784]",
-        "ok",
+        "ok Code",
     ),
     (
         r#"["0x20000000","0x20010000"]"#,
         r#"["0x2000fff0","0x20010000"]"#,
-        "ok",
+        "ok Code",
     ),
     (
         r#"["0x20000000","0x20010000"]"#,
@@ -208,7 +252,7 @@ static PARTS: [(&str, &str, &str); 51] = [
     (
         r#"["0x20000000","0x20010000"]"#,
         r#"["0x10010800","0x20000001"]"#,
-        "11 limit/stack",
+        "11 limit/stack 16777216",
     ),
     (
         r#""0x10018000""#,
@@ -229,17 +273,17 @@ static PARTS: [(&str, &str, &str); 51] = [
     (
         r#"["0x10020000","0x10020100"]"#,
         r#"["0x10010800","0x10012000"]"#,
-        "8 range-meets",
+        "8 range-meets 1 2",
     ),
     (
         r#"["0x10020000","0x10020100"]"#,
         r#"["0x0ffffffc","0x20000001"]"#,
-        "8 range-meets",
+        "8 range-meets 0 2",
     ),
     (
         r#"["0x10020000","0x10020100"]"#,
         r#"["0x10000003","0x10000004"]"#,
-        "8 range-meets",
+        "8 range-meets 2 3",
     ),
     (
         r#""kind":"code""#,
@@ -293,7 +337,7 @@ static PARTS: [(&str, &str, &str); 51] = [
         r#""version":18446744073709551616"#,
         "3 wrong-kind/version",
     ),
-    (r#""version":1"#, r#""version":2,"version":1"#, "ok"),
+    (r#""version":1"#, r#""version":2,"version":1"#, "ok Code"),
     (
         r#""version":1"#,
         r#""version":1,"version":2"#,
@@ -303,171 +347,206 @@ static PARTS: [(&str, &str, &str); 51] = [
     ("{", r#"{"more":"\ud800","#, "1 not-json"),
     ("{", "\u{feff}{", "1 not-json"),
     ("{", "[", "1 not-json"),
+    (r#""kind":"code""#, r#""kind":"const""#, "ok Fixed"),
+    (r#""kind":"code""#, r#""kind":"data""#, "ok Writable"),
+    (r#""kind":"code""#, r#""kind":"sda13""#, "ok Sda13"),
+    (r#""kind":"code""#, r#""kind":"sda2""#, "ok Sda2"),
+    (r#""kind":"code""#, r#""kind":"sda0""#, "ok Sda0"),
+    (LAYOUT, "[]", "3 wrong-kind"),
 ];
 
 fn parts() -> &'static [(&'static str, &'static str, &'static str)] {
     &PARTS
 }
 
+/// A text up to its first semicolon.
+fn head_of(text: &str) -> &str {
+    match text.split_once(";") {
+        Some((head, _)) => head,
+        None => text,
+    }
+}
+
 #[test]
 fn the_first_fault_is_told(rt: HostRuntime) -> Result<(), Fail> {
-    let alloc = rt.alloc();
     for (old, new, wanted) in parts() {
-        let text = with_part(alloc, old, new)?;
-        let found = answer(alloc, text.as_bytes())?;
-        assert_eq!(rt; found.as_str(), *wanted, "{old} as {new}");
-    }
-    assert_eq!(rt; answer(alloc, b"\"\xff\"")?.as_str(), "1 not-json");
-    assert_eq!(rt; answer(alloc, b"[]")?.as_str(), "3 wrong-kind");
-    Ok(())
-}
-
-/// An area's kind as a layout says it.
-static KINDS: [(&str, AreaKind); 6] = [
-    ("code", AreaKind::Code),
-    ("const", AreaKind::Fixed),
-    ("data", AreaKind::Writable),
-    ("sda13", AreaKind::Sda13),
-    ("sda2", AreaKind::Sda2),
-    ("sda0", AreaKind::Sda0),
-];
-
-fn kinds() -> &'static [(&'static str, AreaKind)] {
-    &KINDS
-}
-
-fn first_kind(layout: &Layout) -> Option<AreaKind> {
-    if 0 < layout.areas() {
-        Some(layout.area(0).kind)
-    } else {
-        None
-    }
-}
-
-#[test]
-fn each_kind_is_read(rt: HostRuntime) -> Result<(), Fail> {
-    let alloc = rt.alloc();
-    for (word, kind) in kinds() {
-        let part = format!(in alloc; "\"kind\":\"{word}\"")?;
-        let text = with_part(alloc, r#""kind":"code""#, part.as_str())?;
-        let layout = read_layout(alloc, text.as_bytes()).ok().ok_or("a layout")?;
-        assert_eq!(rt; first_kind(&layout), Some(*kind), "{word}");
+        let found = answer_to(rt.alloc(), old, new)?;
+        assert_eq!(rt; head_of(found.as_str()), *wanted, "{old} as {new}");
     }
     Ok(())
 }
 
-/// Where a name stands, how many bytes it has, and the answer.
-static NAMES: [(&str, &str, usize, &str); 8] = [
-    (r#""entry":"main""#, "entry", 255, "ok"),
-    (r#""entry":"main""#, "entry", 256, "4 out-of-range/entry"),
-    (r#""name":"text""#, "name", 63, "ok"),
-    (
-        r#""name":"text""#,
-        "name",
-        64,
-        "4 out-of-range/areas/0/name",
-    ),
-    (r#""name":"h""#, "name", 255, "ok"),
-    (r#""name":"h""#, "name", 256, "4 out-of-range/pins/0/name"),
-    (r#""unit":"a.c""#, "unit", 255, "ok"),
-    (r#""unit":"a.c""#, "unit", 256, "4 out-of-range/pins/0/unit"),
+/// A part of the layout, and in its place a text, an opening so many times, a closing as many times, and a text.
+#[derive(Clone, Copy)]
+struct Long {
+    old: &'static str,
+    front: &'static str,
+    opening: &'static str,
+    count: usize,
+    closing: &'static str,
+    back: &'static str,
+    wanted: &'static str,
+}
+
+static LONGS: [Long; 15] = [
+    Long {
+        old: r#""entry":"main""#,
+        front: r#""entry":""#,
+        opening: "n",
+        count: 255,
+        closing: "",
+        back: r#"""#,
+        wanted: "ok Code",
+    },
+    Long {
+        old: r#""entry":"main""#,
+        front: r#""entry":""#,
+        opening: "n",
+        count: 256,
+        closing: "",
+        back: r#"""#,
+        wanted: "4 out-of-range/entry",
+    },
+    Long {
+        old: r#""name":"text""#,
+        front: r#""name":""#,
+        opening: "n",
+        count: 63,
+        closing: "",
+        back: r#"""#,
+        wanted: "ok Code",
+    },
+    Long {
+        old: r#""name":"text""#,
+        front: r#""name":""#,
+        opening: "n",
+        count: 64,
+        closing: "",
+        back: r#"""#,
+        wanted: "4 out-of-range/areas/0/name",
+    },
+    Long {
+        old: r#""name":"h""#,
+        front: r#""name":""#,
+        opening: "n",
+        count: 255,
+        closing: "",
+        back: r#"""#,
+        wanted: "ok Code",
+    },
+    Long {
+        old: r#""name":"h""#,
+        front: r#""name":""#,
+        opening: "n",
+        count: 256,
+        closing: "",
+        back: r#"""#,
+        wanted: "4 out-of-range/pins/0/name",
+    },
+    Long {
+        old: r#""unit":"a.c""#,
+        front: r#""unit":""#,
+        opening: "n",
+        count: 255,
+        closing: "",
+        back: r#"""#,
+        wanted: "ok Code",
+    },
+    Long {
+        old: r#""unit":"a.c""#,
+        front: r#""unit":""#,
+        opening: "n",
+        count: 256,
+        closing: "",
+        back: r#"""#,
+        wanted: "4 out-of-range/pins/0/unit",
+    },
+    Long {
+        old: "{",
+        front: r#"{"more":"#,
+        opening: "[",
+        count: 126,
+        closing: "]",
+        back: ",",
+        wanted: "ok Code",
+    },
+    Long {
+        old: "{",
+        front: r#"{"more":"#,
+        opening: "[",
+        count: 127,
+        closing: "]",
+        back: ",",
+        wanted: "1 not-json",
+    },
+    Long {
+        old: r#""areas":["#,
+        front: r#""areas":["#,
+        opening: "0,",
+        count: 1_024,
+        closing: "",
+        back: r#"0],"more":["#,
+        wanted: "11 limit/areas 1024",
+    },
+    Long {
+        old: r#""areas":["#,
+        front: r#""areas":["#,
+        opening: "0,",
+        count: 1_023,
+        closing: "",
+        back: r#"0],"more":["#,
+        wanted: "3 wrong-kind/areas/0",
+    },
+    Long {
+        old: r#""foreign":["#,
+        front: r#""foreign":["#,
+        opening: "0,",
+        count: 1_024,
+        closing: "",
+        back: r#"0],"more":["#,
+        wanted: "11 limit/foreign 1024",
+    },
+    Long {
+        old: r#""pins":["#,
+        front: r#""pins":["#,
+        opening: "0,",
+        count: 65_536,
+        closing: "",
+        back: r#"0],"more":["#,
+        wanted: "11 limit/pins 65536",
+    },
+    Long {
+        old: r#""pins":["#,
+        front: r#""pins":["#,
+        opening: "0,",
+        count: 65_535,
+        closing: "",
+        back: r#"0],"more":["#,
+        wanted: "3 wrong-kind/pins/0",
+    },
 ];
 
-fn names() -> &'static [(&'static str, &'static str, usize, &'static str)] {
-    &NAMES
+fn longs() -> &'static [Long] {
+    &LONGS
 }
 
-#[test]
-fn names_have_a_limit(rt: HostRuntime) -> Result<(), Fail> {
-    let alloc = rt.alloc();
-    for (old, key, bytes, wanted) in names() {
-        let name = "n".repeat(alloc, *bytes)?;
-        let part = format!(in alloc; "\"{key}\":\"{name}\"")?;
-        let text = with_part(alloc, old, part.as_str())?;
-        assert_eq!(rt;
-            answer(alloc, text.as_bytes())?.as_str(),
-            *wanted,
-            "{key} of {bytes}"
-        );
-    }
-    Ok(())
-}
-
-/// The layout with arrays that nest in it, or with an array of so many zeros.
-fn with_nesting(alloc: Global, arrays: usize) -> Result<String, AllocError> {
-    let opened = "[".repeat(alloc, arrays)?;
-    let closed = "]".repeat(alloc, arrays)?;
-    let part = format!(in alloc; "{{\"more\":{opened}{closed},")?;
-    with_part(alloc, "{", part.as_str())
-}
-
-fn with_zeros(alloc: Global, key: &str, count: usize) -> Result<String, AllocError> {
-    let zeros = "0,".repeat(alloc, count)?;
-    let part = format!(in alloc; "\"{key}\":[{zeros}0],\"more\":[")?;
-    let old = format!(in alloc; "\"{key}\":[")?;
-    with_part(alloc, old.as_str(), part.as_str())
-}
-
-static NESTING: [(usize, &str); 2] = [(126, "ok"), (127, "1 not-json")];
-
-fn nesting() -> &'static [(usize, &'static str)] {
-    &NESTING
-}
-
-/// A list, its items but one, the answer, and the limit that it tells.
-static LIMITS: [(&str, usize, &str, u32); 5] = [
-    ("areas", 1_024, "11 limit/areas", 1_024),
-    ("areas", 1_023, "3 wrong-kind/areas/0", 0),
-    ("foreign", 1_024, "11 limit/foreign", 1_024),
-    ("pins", 65_536, "11 limit/pins", 65_536),
-    ("pins", 65_535, "3 wrong-kind/pins/0", 0),
-];
-
-fn limits() -> &'static [(&'static str, usize, &'static str, u32)] {
-    &LIMITS
+fn answer_to_long(alloc: Global, long: &Long) -> Result<String, Fail> {
+    let opened = long.opening.repeat(alloc, long.count)?;
+    let closed = long.closing.repeat(alloc, long.count)?;
+    let new = format!(in alloc; "{}{opened}{closed}{}", long.front, long.back)?;
+    answer_to(alloc, long.old, new.as_str())
 }
 
 #[test]
 fn limits_are_told(rt: HostRuntime) -> Result<(), Fail> {
-    let alloc = rt.alloc();
-    for (arrays, wanted) in nesting() {
-        let text = with_nesting(alloc, *arrays)?;
-        let found = answer(alloc, text.as_bytes())?;
-        assert_eq!(rt; found.as_str(), *wanted, "{arrays} arrays");
-    }
-    for (key, count, wanted, limit) in limits() {
-        let text = with_zeros(alloc, key, *count)?;
-        let found = answer(alloc, text.as_bytes())?;
-        assert_eq!(rt; found.as_str(), *wanted, "{key} of {count}");
+    for long in longs() {
+        let found = answer_to_long(rt.alloc(), long)?;
         assert_eq!(rt;
-            numbers(alloc, text.as_bytes()).0,
-            *limit,
-            "{key} of {count}"
-        );
-    }
-    Ok(())
-}
-
-/// A foreign range, and the numbers of the ranges that meet.
-static MEETINGS: [(&str, u32, u32); 3] = [
-    (r#"["0x10010800","0x10012000"]"#, 1, 2),
-    (r#"["0x0ffffffc","0x20000001"]"#, 0, 2),
-    (r#"["0x10000003","0x10000004"]"#, 2, 3),
-];
-
-fn meetings() -> &'static [(&'static str, u32, u32)] {
-    &MEETINGS
-}
-
-#[test]
-fn the_pair_that_meets_is_told(rt: HostRuntime) -> Result<(), Fail> {
-    let alloc = rt.alloc();
-    for (foreign, earlier, later) in meetings() {
-        let text = with_part(alloc, r#"["0x10020000","0x10020100"]"#, foreign)?;
-        assert_eq!(rt;
-            numbers(alloc, text.as_bytes()),
-            (*earlier, *later),
-            "{foreign}"
+            head_of(found.as_str()),
+            long.wanted,
+            "{} {}",
+            long.front,
+            long.count
         );
     }
     Ok(())

@@ -1,5 +1,6 @@
 -- How many keys units have.
-use Rattle.std.proofs.Common.{◌≡◌, ℕ, ◌+◌, ◌*◌, ◌≤◌, Bool, true, false, ◌&&◌, List, [], ◌∷◌, ◌++◌, length, map, cond, ap, arith, length-append, if◌then◌else◌}
+use Rattle.std.proofs.Common.{◌≡◌, ℕ, ◌+◌, ◌*◌, ◌≤◌, Bool, true, false, ◌&&◌, List, [], ◌∷◌, ◌++◌, length, map, cond, ap, arith}
+use Rattle.std.proofs.Common.{length-append, if◌then◌else◌}
 use Rattle.std.specs.Prelude.{filter, nat_le}
 use Rattle.std.specs.List.{list_all, list_any, flat_map, enumerate_from}
 use Rattle.std.proofs.lemmas.Bool.{and_parts, leb-true}
@@ -11,7 +12,8 @@ use Rattle.asm_syntax.specs.declared.unit.External.{External}
 use Rattle.asm_syntax.specs.declared.unit.Unit.{Unit}
 use Rattle.asm_shapes.specs.Units.{unit_fits, function_fits, variable_fits, external_fits, counts_fit, are_distinct, unit_names}
 use Rattle.link_model.specs.Sets.{first_of_each}
-use Rattle.link_model.specs.Program.{Declaration, unit_declarations, OfFunction, OfVariable, OfExternal, declarations, is_key, same_key, keys}
+use Rattle.link_model.specs.Program.{Declaration, unit_declarations, OfFunction, OfVariable, OfExternal, declarations, is_key, same_key}
+use Rattle.link_model.specs.Program.{keys}
 
 few_in : (u : ℕ) (unit : Unit) → unit_fits unit ≡ true → length (unit_declarations u unit) ≤ 196608
 few_in u unit h =
@@ -62,7 +64,8 @@ pub few_kept : {X : Type 0} (p : X → Bool) (xs : List X) → length (filter p 
 few_kept p [] = omega arith
 few_kept p (x ∷ xs) = omega (arith, filter_step (p x) x (filter p xs) (length xs) (few_kept p xs))
 
-few_step : {X : Type 0} (b : Bool) (x : X) (ys zs : List X) (n : ℕ) → length ys ≤ n → length zs ≤ n → length (if b then ys else x ∷ zs) ≤ n + 1
+few_step : {X : Type 0} (b : Bool) (x : X) (ys zs : List X) (n : ℕ) → length ys ≤ n → length zs ≤ n
+    → length (if b then ys else x ∷ zs) ≤ n + 1
 few_step true x ys zs n h k = omega arith
 few_step false x ys zs n h k = omega arith
 
@@ -80,10 +83,16 @@ pub few_keys : (units : List Unit) → list_all unit_fits units ≡ true → len
 unfolding keys
 few_keys units h few =
     let standing = filter (λ (d : Declaration). is_key units d.item) (declarations units) in
-    omega (arith, few_firsts same_key [] standing, few_kept (λ (d : Declaration). is_key units d.item) (declarations units), few_declarations units h)
+    omega (
+      arith,
+      few_firsts same_key [] standing,
+      few_kept (λ (d : Declaration). is_key units d.item) (declarations units),
+      few_declarations units h,
+    )
 
 pub few_standing : (units : List Unit) → list_all unit_fits units ≡ true → length units ≤ MOST_UNITS
-    → length (filter (λ (d : Declaration). is_key units d.item) (declarations units)) ≤ MOST_UNITS * (MOST_FUNCTIONS + MOST_VARIABLES + MOST_EXTERNALS)
+    → length (filter (λ (d : Declaration). is_key units d.item) (declarations units)) ≤ MOST_UNITS *
+    (MOST_FUNCTIONS + MOST_VARIABLES + MOST_EXTERNALS)
 few_standing units h few =
     omega (arith, few_kept (λ (d : Declaration). is_key units d.item) (declarations units), few_declarations units h)
 

@@ -1,5 +1,6 @@
 -- The greatest alignment of a name, one declaration after another.
-use Rattle.std.proofs.Common.{◌≡◌, ℕ, ◌+◌, ◌<◌, ◌≤◌, Bool, true, false, List, [], ◌∷◌, ◌++◌, length, get_or, take, cond, refl, sym, ◌∙◌, ap, arith, Option, Some}
+use Rattle.std.proofs.Common.{◌≡◌, ℕ, ◌+◌, ◌<◌, ◌≤◌, Bool, true, false, List, [], ◌∷◌, ◌++◌, length, get_or, take, cond, refl, sym, ◌∙◌, ap}
+use Rattle.std.proofs.Common.{arith, Option, Some}
 use Rattle.std.specs.Prelude.{max, filter, fold}
 use Rattle.std.specs.Option.{unwrap_or}
 use Rattle.std.specs.Map.{lookup}
@@ -34,7 +35,8 @@ known_step true o m g before al h e k = e ∙ ap (λ n. max n al) (h refl)
 known_step false o m g before al h e k = k
 
 -- one more declaration with the alignment al, where `before` was known of its name
-pub known_more : (ds : List Declaration) (i : ℕ) (e : Declaration) (d : Declaration) (numbers others : List ((ℕ × List ℕ) × ℕ)) (before m : ℕ)
+pub known_more : (ds : List Declaration) (i : ℕ) (e : Declaration) (d : Declaration)
+    (numbers others : List ((ℕ × List ℕ) × ℕ)) (before m : ℕ)
     → i < length ds → get_or ds i e ≡ d
     → ((q : ℕ × List ℕ) → unwrap_or (lookup (is_same q) numbers) 1 ≡ greatest q (take i ds))
     → before ≡ unwrap_or (lookup (is_same (scoped_name d)) numbers) 1 → m ≡ max before (item_alignment d.item)

@@ -1,5 +1,6 @@
 -- Lists of tests, one after another.
-use Rattle.std.proofs.Common.{◌≡◌, ℕ, Bool, true, false, ◌&&◌, List, [], ◌∷◌, ◌++◌, cond, Option, Some, None, Ok, refl, sym, ap, ◌∙◌, subst, append_assoc}
+use Rattle.std.proofs.Common.{◌≡◌, ℕ, Bool, true, false, ◌&&◌, List, [], ◌∷◌, ◌++◌, cond, Option, Some, None, Ok, refl, sym, ap, ◌∙◌, subst}
+use Rattle.std.proofs.Common.{append_assoc}
 use Rattle.std.specs.Prelude.{⊤, Result, filter}
 use Rattle.ordered_tests.specs.Checks.{Check, first_fault}
 use Rattle.ordered_tests.specs.Steps.{unless, all_pass, ◌>>◌}
@@ -9,7 +10,8 @@ use Rattle.ordered_tests.proofs.Answers.{no_fault, one_fault}
 use Rattle.asm_syntax.specs.declared.unit.Unit.{Unit}
 use Rattle.link_model.specs.declared.link_error.LinkError.TheVariants.{DefinedTwice, SigDiffers}
 use Rattle.link_model.specs.Program.{Declaration, name_of, is_external, is_global_definition, is_key, joins, declarations, keys}
-use Rattle.link_model.specs.LinkTests.{unit_tests, definition_tests, name_tests, sig_tests, repeat_tests, same_external, entry_test, size_tests, link_tests}
+use Rattle.link_model.specs.LinkTests.{unit_tests, definition_tests, name_tests, sig_tests, repeat_tests, same_external, entry_test}
+use Rattle.link_model.specs.LinkTests.{size_tests, link_tests}
 use Rattle.linked_program.specs.Linked.{all_name_tests}
 
 -- where the first tests pass, the others decide
@@ -17,7 +19,8 @@ pub past : {F : Type 0} → (xs ys : List (Check F)) → all_pass xs ≡ Ok tt �
 past xs ys h = ap unless (first_fault_after xs ys (no_fault (first_fault xs) h))
 
 -- what the first tests tell, all tell
-pub told_first : {F : Type 0} → (o : Option F) (xs ys : List (Check F)) → IsTold {T = ⊤} o (all_pass xs) → IsTold {T = ⊤} o (all_pass (xs ++ ys))
+pub told_first : {F : Type 0} → (o : Option F) (xs ys : List (Check F)) → IsTold {T = ⊤} o (all_pass xs)
+    → IsTold {T = ⊤} o (all_pass (xs ++ ys))
 told_first None xs ys h = tt
 told_first (Some f) xs ys h = ap unless (first_fault_before xs ys f (one_fault (first_fault xs) f h))
 
@@ -58,7 +61,8 @@ filter_both r q [] = refl
 filter_both r q (d ∷ ds) = both_step (r d) (q d) d (filter q ds) (filter (λ d. r d && q d) ds) r refl (filter_both r q ds)
 
 pub signatures_are : (units : List Unit) (ds : List Declaration) → ds ≡ filter (λ d. is_key units d.item) (declarations units)
-    → repeat_tests same_external (λ d. SigDiffers d.unit (name_of d)) (filter (λ (d : Declaration). is_external d.item) ds) ≡ sig_tests units
+    → repeat_tests same_external (λ d. SigDiffers d.unit (name_of d)) (filter (λ (d : Declaration). is_external d.item) ds)
+    ≡ sig_tests units
 signatures_are units ds h =
     ap (λ ds. repeat_tests same_external (λ d. SigDiffers d.unit (name_of d)) ds)
     (ap (filter (λ (d : Declaration). is_external d.item)) h

@@ -1,5 +1,6 @@
 -- The kinds of keys, counted from the front.
-use Rattle.std.proofs.Common.{◌≡◌, ℕ, zero, suc, ◌+◌, ◌<◌, Bool, true, false, List, [], ◌∷◌, ◌++◌, length, map, take, drop, get_or, cond, refl, sym, ◌∙◌, ap, arith, Some, append_assoc}
+use Rattle.std.proofs.Common.{◌≡◌, ℕ, zero, suc, ◌+◌, ◌<◌, Bool, true, false, List, [], ◌∷◌, ◌++◌, length, map, take, drop, get_or, cond}
+use Rattle.std.proofs.Common.{refl, sym, ◌∙◌, ap, arith, Some, append_assoc}
 use Rattle.std.specs.Prelude.{filter, slice_get, option_map}
 use Rattle.std.specs.List.{flat_map, enumerate_from}
 use Rattle.std.proofs.lemmas.List.{drop_more}
@@ -63,7 +64,8 @@ kinds_are ds k = kinds_at 0 0 0 ds k ∙ (λ i. option_map (λ (d : Declaration)
 
 pub kinds_more : (list : List KeyKind) (f v x : ℕ) (ds : List Declaration) (i : ℕ) (e : Declaration) → i < length ds
     → (list ++ kind_behind f v x (get_or ds i e).item ∷ [])
-    ++ kinds_behind (next is_function f (get_or ds i e).item) (next is_variable v (get_or ds i e).item) (next is_external x (get_or ds i e).item) (drop (i + 1) ds)
+    ++ kinds_behind (next is_function f (get_or ds i e).item) (next is_variable v (get_or ds i e).item)
+    (next is_external x (get_or ds i e).item) (drop (i + 1) ds)
     ≡ list ++ kinds_behind f v x (drop i ds)
 kinds_more list f v x ds i e lt =
     let d = get_or ds i e in

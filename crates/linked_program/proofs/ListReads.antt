@@ -1,5 +1,6 @@
 -- Lists that are kept in another form, at a place.
-use Rattle.std.proofs.Common.{◌≡◌, ℕ, zero, suc, ◌+◌, ◌<◌, ◌≤◌, Bool, true, false, List, [], ◌∷◌, ◌++◌, length, map, get_or, cond, refl, sym, ap, ◌∙◌, arith, Some}
+use Rattle.std.proofs.Common.{◌≡◌, ℕ, zero, suc, ◌+◌, ◌<◌, ◌≤◌, Bool, true, false, List, [], ◌∷◌, ◌++◌, length, map, get_or, cond, refl}
+use Rattle.std.proofs.Common.{sym, ap, ◌∙◌, arith, Some}
 use Rattle.std.specs.Prelude.{slice_get, option_map, filter}
 use Rattle.std.specs.List.{flat_map, enumerate_from}
 use Rattle.std.proofs.lemmas.List.{length-map}
@@ -11,7 +12,8 @@ use Rattle.asm_syntax.specs.declared.unit.Variable.{Variable}
 use Rattle.asm_syntax.specs.declared.unit.External.{External}
 use Rattle.asm_syntax.specs.declared.unit.Unit.{Unit}
 use Rattle.link_model.specs.Program.{Item, OfFunction, OfVariable, OfExternal, Declaration, is_external, keys, key_alignment, declarations}
-use Rattle.link_model.specs.Numbers.{is_function, is_variable, item_functions, item_variables, item_externals, functions, variables, externals, key_of, kind_of, item_kind}
+use Rattle.link_model.specs.Numbers.{is_function, is_variable, item_functions, item_variables, item_externals, functions, variables}
+use Rattle.link_model.specs.Numbers.{externals, key_of, kind_of, item_kind}
 use Rattle.linked_program.specs.Alignments.{alignment_in, variable_alignment}
 use Rattle.linked_program.specs.Kinds.{key_numbers, item_kind_in, kind_in}
 use Rattle.linked_program.proofs.Greatest.{key_greatest, positive}
@@ -73,15 +75,18 @@ few_externals units = at_most item_externals one_external (keys units)
 
 -- ---- the lists of a program
 
-pub functions_are : (units : List Unit) (fs : List Function) → fs ≡ flat_map (λ (d : Declaration). item_functions d.item) (keys units) → fs ≡ functions units
+pub functions_are : (units : List Unit) (fs : List Function) → fs ≡ flat_map (λ (d : Declaration). item_functions d.item) (keys units)
+    → fs ≡ functions units
 unfolding functions
 functions_are units fs h = h
 
-pub variables_are : (units : List Unit) (xs : List Variable) → xs ≡ flat_map (λ (d : Declaration). item_variables d.item) (keys units) → xs ≡ variables units
+pub variables_are : (units : List Unit) (xs : List Variable) → xs ≡ flat_map (λ (d : Declaration). item_variables d.item) (keys units)
+    → xs ≡ variables units
 unfolding variables
 variables_are units xs h = h
 
-pub externals_are : (units : List Unit) (xs : List External) → xs ≡ flat_map (λ (d : Declaration). item_externals d.item) (keys units) → xs ≡ externals units
+pub externals_are : (units : List Unit) (xs : List External) → xs ≡ flat_map (λ (d : Declaration). item_externals d.item) (keys units)
+    → xs ≡ externals units
 unfolding externals
 externals_are units xs h = h
 
@@ -97,7 +102,8 @@ unfolding kind_of
 kind_is units k = λ i. option_map (λ (d : Declaration). kind_step units k d.item i) (slice_get (keys units) k)
 
 -- a key has a kind
-pub kind_there : (ds : List Declaration) (list : List KeyKind) → ((k : ℕ) → slice_get list k ≡ kind_in ds k) → (k : ℕ) → k < length ds → k < length list
+pub kind_there : (ds : List Declaration) (list : List KeyKind) → ((k : ℕ) → slice_get list k ≡ kind_in ds k) → (k : ℕ) → k < length ds
+    → k < length list
 kind_there [] list h k lt = absurd (omega arith)
 kind_there (d ∷ ds) list h k lt =
     there list k _ (h k ∙ ap (option_map (λ (e : Declaration). item_kind_in (d ∷ ds) k e.item)) (slice_get-get_or (d ∷ ds) k d lt))
@@ -125,15 +131,18 @@ below p a (d ∷ ds) n k h =
 pub number_below : (is_kind : Item → Bool) (ds : List Declaration) (n k : ℕ) → slice_get (key_numbers is_kind ds) n ≡ Some k → k < length ds
 number_below is_kind ds n k h = let lt = below (λ (k : ℕ × Declaration). is_kind k.1.item) 0 ds n k h in omega arith
 
-pub function_number : (units : List Unit) (n k : ℕ) → slice_get (key_numbers is_function (keys units)) n ≡ Some k → key_of units (kinds.Function n) ≡ Some k
+pub function_number : (units : List Unit) (n k : ℕ) → slice_get (key_numbers is_function (keys units)) n ≡ Some k
+    → key_of units (kinds.Function n) ≡ Some k
 unfolding key_of
 function_number units n k h = h
 
-pub variable_number : (units : List Unit) (n k : ℕ) → slice_get (key_numbers is_variable (keys units)) n ≡ Some k → key_of units (kinds.Variable n) ≡ Some k
+pub variable_number : (units : List Unit) (n k : ℕ) → slice_get (key_numbers is_variable (keys units)) n ≡ Some k
+    → key_of units (kinds.Variable n) ≡ Some k
 unfolding key_of
 variable_number units n k h = h
 
-pub external_number : (units : List Unit) (n k : ℕ) → slice_get (key_numbers is_external (keys units)) n ≡ Some k → key_of units (kinds.External n) ≡ Some k
+pub external_number : (units : List Unit) (n k : ℕ) → slice_get (key_numbers is_external (keys units)) n ≡ Some k
+    → key_of units (kinds.External n) ≡ Some k
 unfolding key_of
 external_number units n k h = h
 

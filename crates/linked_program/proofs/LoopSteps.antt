@@ -1,5 +1,6 @@
 -- One more key, or one more declaration, in the loops that make tables.
-use Rattle.std.proofs.Common.{◌≡◌, ℕ, ◌+◌, ◌<◌, ◌≤◌, Bool, true, false, ◌&&◌, ◌||◌, List, [], ◌∷◌, ◌++◌, length, get_or, map, take, drop, position, cond, refl, sym, ap, ◌∙◌, Option, Some, None, append_assoc, append-nil, Bor}
+use Rattle.std.proofs.Common.{◌≡◌, ℕ, ◌+◌, ◌<◌, ◌≤◌, Bool, true, false, ◌&&◌, ◌||◌, List, [], ◌∷◌, ◌++◌, length, get_or, map, take, drop}
+use Rattle.std.proofs.Common.{position, cond, refl, sym, ap, ◌∙◌, Option, Some, None, append_assoc, append-nil, Bor}
 use Rattle.std.specs.Prelude.{is_some, filter}
 use Rattle.std.specs.List.{list_any, flat_map, position_from, enumerate_from}
 use Rattle.std.specs.Map.{lookup}
@@ -32,7 +33,8 @@ module _ {Y : Type 0} (f : Item → List Y) (is_kind : Item → Bool) (ds : List
       ∙ items_more (λ (d : Declaration). f d.item) list ds i d lt
 
   pub numbers_step : (list more : List ℕ) → more ≡ list ++ cond (is_kind d.item) (i ∷ []) []
-      → more ++ numbers_from (λ (d : Declaration). is_kind d.item) ds (i + 1) ≡ list ++ numbers_from (λ (d : Declaration). is_kind d.item) ds i
+      → more ++ numbers_from (λ (d : Declaration). is_kind d.item) ds (i + 1) ≡ list
+      ++ numbers_from (λ (d : Declaration). is_kind d.item) ds i
   numbers_step list more h =
       ap (λ l. l ++ numbers_from (λ (d : Declaration). is_kind d.item) ds (i + 1))
       (h ∙ ap (λ (e : Declaration). list ++ cond (is_kind e.item) (i ∷ []) []) (sym at))
@@ -70,15 +72,18 @@ items_end f list xs i total le h = sym (ap (λ l. list ++ flat_map f l) (drop_al
 
 -- ---- kinds
 
-pub kinds_step : (list more : List KeyKind) (f v x g w y : ℕ) (ds : List Declaration) (i : ℕ) (d : Declaration) (kind : KeyKind) → i < length ds
+pub kinds_step : (list more : List KeyKind) (f v x g w y : ℕ) (ds : List Declaration) (i : ℕ) (d : Declaration) (kind : KeyKind)
+    → i < length ds
     → get_or ds i d ≡ d → more ≡ list ++ kind ∷ [] → kind ≡ kind_behind f v x d.item
     → g ≡ next is_function f d.item → w ≡ next is_variable v d.item → y ≡ next is_external x d.item
     → more ++ kinds_behind g w y (drop (i + 1) ds) ≡ list ++ kinds_behind f v x (drop i ds)
 kinds_step list more f v x g w y ds i d kind lt at m k a b c =
     (λ j. m j ++ kinds_behind (a j) (b j) (c j) (drop (i + 1) ds))
-    ∙ ((λ j. (list ++ k j ∷ []) ++ kinds_behind (next is_function f d.item) (next is_variable v d.item) (next is_external x d.item) (drop (i + 1) ds))
+    ∙ ((λ j. (list ++ k j ∷ []) ++ kinds_behind (next is_function f d.item) (next is_variable v d.item)
+    (next is_external x d.item) (drop (i + 1) ds))
     ∙ ((λ j. (list ++ kind_behind f v x (sym at j).item ∷ [])
-    ++ kinds_behind (next is_function f (sym at j).item) (next is_variable v (sym at j).item) (next is_external x (sym at j).item) (drop (i + 1) ds))
+    ++ kinds_behind (next is_function f (sym at j).item) (next is_variable v (sym at j).item)
+    (next is_external x (sym at j).item) (drop (i + 1) ds))
     ∙ kinds_more list f v x ds i d lt))
 
 pub kinds_end : (list : List KeyKind) (f v x : ℕ) (ds : List Declaration) (i : ℕ) (total : List KeyKind) → length ds ≤ i
@@ -90,7 +95,8 @@ kinds_end list f v x ds i total le h = sym (ap (λ l. list ++ kinds_behind f v x
 abbrev pub is_entry_of : List ℕ → Declaration → Bool
 is_entry_of entry d = is_entry entry d.item
 
-pub entry_is : (units : List Unit) (entry : List ℕ) (k : ℕ) → Some k ≡ position (is_entry_of entry) (keys units) → entry_key units entry ≡ Some k
+pub entry_is : (units : List Unit) (entry : List ℕ) (k : ℕ) → Some k ≡ position (is_entry_of entry) (keys units)
+    → entry_key units entry ≡ Some k
 unfolding entry_key
 entry_is units entry k h = sym h
 
@@ -141,7 +147,8 @@ module _ (q : ℕ × List ℕ) (names : List ((ℕ × List ℕ) × ℕ)) (ds : L
 
 -- ---- what is made of each key
 
-pub made_more : {Y : Type 0} (f : Declaration → Y) (list more : List Y) (keys : List Declared) (i : ℕ) (x : Declared) (y : Y) → i < length keys
+pub made_more : {Y : Type 0} (f : Declaration → Y) (list more : List Y) (keys : List Declared) (i : ℕ) (x : Declared) (y : Y)
+    → i < length keys
     → x ≡ get_or keys i x → more ≡ list ++ y ∷ [] → y ≡ f (declaration_seen x)
     → more ++ map f (map declaration_seen (drop (i + 1) keys)) ≡ list ++ map f (map declaration_seen (drop i keys))
 made_more f list more keys i x y lt is m e =

@@ -1,5 +1,6 @@
 -- What a name means in a unit, by look-ups among the keys.
-use Rattle.std.proofs.Common.{◌≡◌, ℕ, zero, suc, ◌+◌, ◌<◌, Bool, true, false, ◌&&◌, ◌||◌, not, List, [], ◌∷◌, ◌++◌, map, position, Option, Some, None, refl, sym, ◌∙◌, ap, arith, if◌then◌else◌}
+use Rattle.std.proofs.Common.{◌≡◌, ℕ, zero, suc, ◌+◌, ◌<◌, Bool, true, false, ◌&&◌, ◌||◌, not, List, [], ◌∷◌, ◌++◌, map, position, Option}
+use Rattle.std.proofs.Common.{Some, None, refl, sym, ◌∙◌, ap, arith, if◌then◌else◌}
 use Rattle.std.specs.Prelude.{slice_get, is_some, ◌==◌}
 use Rattle.std.specs.Cmp.{both_ways}
 use Rattle.std.specs.List.{list_any, flat_map, enumerate_from}
@@ -12,7 +13,9 @@ use Rattle.asm_syntax.specs.declared.instr.Function.{Function}
 use Rattle.asm_syntax.specs.declared.unit.Variable.{Variable}
 use Rattle.asm_syntax.specs.declared.unit.External.{External}
 use Rattle.asm_syntax.specs.declared.unit.Unit.{Unit}
-use Rattle.link_model.specs.Program.{Item, OfFunction, OfVariable, OfExternal, Declaration, name_of, is_static, is_external, is_global_definition, unit_declarations, declarations, declares, defines_global, is_key, keys, is_static_named, is_global_named, unit_declares, resolve}
+use Rattle.link_model.specs.Program.{Item, OfFunction, OfVariable, OfExternal, Declaration, name_of, is_static, is_external}
+use Rattle.link_model.specs.Program.{is_global_definition, unit_declarations, declarations, declares, defines_global, is_key, keys}
+use Rattle.link_model.specs.Program.{is_static_named, is_global_named, unit_declares, resolve}
 use Rattle.link_laws.proofs.Items.{any_get, any_item}
 use Rattle.link_laws.proofs.Names.{static_key, global_parts, names_same}
 use Rattle.link_laws.proofs.Entry.{IsKept, keys_kept}
@@ -71,15 +74,18 @@ unfolding resolve
 resolve_static units u n k h =
     let place = static_place units u n (Some k) h in
     let there = static_there units u n ∙ ap is_some place in
-    sym (if_true (list_any (is_static_named u n) (declarations units)) (position (is_static_named u n) (keys units)) (resolve_global units u n) there ∙ place)
+    sym (if_true (list_any (is_static_named u n) (declarations units)) (position (is_static_named u n) (keys units))
+    (resolve_global units u n) there ∙ place)
 
-pub resolve_other : (units : List Unit) (u : ℕ) (n : List ℕ) → (let none : Option ℕ = None in none ≡ position (is_of (u + 1, n)) (keys units))
+pub resolve_other : (units : List Unit) (u : ℕ) (n : List ℕ)
+    → (let none : Option ℕ = None in none ≡ position (is_of (u + 1, n)) (keys units))
     → resolve_global units u n ≡ resolve units u n
 unfolding resolve
 resolve_other units u n h =
     let place = static_place units u n None h in
     let there = static_there units u n ∙ ap is_some place in
-    sym (if_false (list_any (is_static_named u n) (declarations units)) (position (is_static_named u n) (keys units)) (resolve_global units u n) there)
+    sym (if_false (list_any (is_static_named u n) (declarations units)) (position (is_static_named u n) (keys units))
+    (resolve_global units u n) there)
 
 -- ---- a global name
 
@@ -97,7 +103,8 @@ no_external units n (OfExternal x) kept u name h =
     absurd (cc)
 
 -- a key with a global name is a definition exactly where the name is defined
-pub definition_is : (units : List Unit) (n : List ℕ) (k : ℕ) (d : Declaration) → slice_get (keys units) k ≡ Some d → is_global_named n d ≡ true
+pub definition_is : (units : List Unit) (n : List ℕ) (k : ℕ) (d : Declaration) → slice_get (keys units) k ≡ Some d
+    → is_global_named n d ≡ true
     → not (is_external d.item) ≡ defines_global units n
 unfolding defines_global
 definition_is units n k d at named =
@@ -112,7 +119,8 @@ definition_is units n k d at named =
 pub global_none : (units : List Unit) (u : ℕ) (n : List ℕ) → (let none : Option ℕ = None in none ≡ position (is_of (0, n)) (keys units))
     → (let none : Option ℕ = None in none ≡ resolve_global units u n)
 global_none units u n h =
-    sym (if_same (defines_global units n || unit_declares units u n) (position (is_global_named n) (keys units)) None (global_place units n None h))
+    sym (if_same (defines_global units n || unit_declares units u n) (position (is_global_named n) (keys units)) None
+    (global_place units n None h))
 
 -- d: whether the key is a definition; t: whether the unit declares the name
 pub global_some : (units : List Unit) (u : ℕ) (n : List ℕ) (k : ℕ) (d t : Bool) → Some k ≡ position (is_of (0, n)) (keys units)
@@ -122,7 +130,8 @@ global_some units u n k d t h e f both =
     ((λ i. sym e i || sym f i) ∙ both) ∙ global_place units n (Some k) h)
 
 pub global_not : (units : List Unit) (u : ℕ) (n : List ℕ) (d t : Bool)
-    → d ≡ defines_global units n → t ≡ unit_declares units u n → (d || t) ≡ false → (let none : Option ℕ = None in none ≡ resolve_global units u n)
+    → d ≡ defines_global units n → t ≡ unit_declares units u n → (d || t) ≡ false
+    → (let none : Option ℕ = None in none ≡ resolve_global units u n)
 global_not units u n d t e f neither =
     sym (if_false (defines_global units n || unit_declares units u n) (position (is_global_named n) (keys units)) None
     ((λ i. sym e i || sym f i) ∙ neither))
@@ -130,11 +139,13 @@ global_not units u n d t e f neither =
 -- ---- the externals of a unit
 
 module _ (u : ℕ) (n : List ℕ) where
-  of_functions : (k : ℕ) (fs : List Function) → list_any (is_external_of (u, n)) (map (λ f. record { unit = k; item = OfFunction f }) fs) ≡ false
+  of_functions : (k : ℕ) (fs : List Function) → list_any (is_external_of (u, n)) (map (λ f. record { unit = k; item = OfFunction f }) fs)
+      ≡ false
   of_functions k [] = refl
   of_functions k (f ∷ fs) = of_functions k fs
 
-  of_variables : (k : ℕ) (xs : List Variable) → list_any (is_external_of (u, n)) (map (λ x. record { unit = k; item = OfVariable x }) xs) ≡ false
+  of_variables : (k : ℕ) (xs : List Variable) → list_any (is_external_of (u, n)) (map (λ x. record { unit = k; item = OfVariable x }) xs)
+      ≡ false
   of_variables k [] = refl
   of_variables k (x ∷ xs) = of_variables k xs
 
@@ -194,7 +205,8 @@ at_unit n k zero [] = refl
 at_unit n k (suc j) [] = refl
 at_unit n k zero (unit ∷ units) =
     list_any-append (is_external_of (k + 0, n)) (unit_declarations k unit) (from (k + 1) units)
-    ∙ (or_false (list_any (is_external_of (k + 0, n)) (unit_declarations k unit)) (list_any (is_external_of (k + 0, n)) (from (k + 1) units))
+    ∙ (or_false (list_any (is_external_of (k + 0, n)) (unit_declarations k unit))
+    (list_any (is_external_of (k + 0, n)) (from (k + 1) units))
     (below (k + 0) n (k + 1) units (omega arith)) ∙ (in_unit (k + 0) n k unit ∙ here k (declares unit n)))
 at_unit n k (suc j) (unit ∷ units) =
     let e : k + suc j ≡ k + 1 + j = omega arith in

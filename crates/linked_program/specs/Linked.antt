@@ -6,7 +6,8 @@ use Rattle.ordered_tests.specs.Steps.{◌>>◌, all_pass}
 use Rattle.asm_syntax.specs.declared.unit.Unit.{Unit}
 use Rattle.asm_shapes.specs.Units.{function_fits, variable_fits, external_fits}
 use Rattle.link_model.specs.declared.link_error.LinkError.{LinkError}
-use Rattle.link_model.specs.Program.{Program, Item, OfFunction, OfVariable, OfExternal, keys, defines_global, unit_declares, is_global_named}
+use Rattle.link_model.specs.Program.{Program, Item, OfFunction, OfVariable, OfExternal, keys, defines_global, unit_declares}
+use Rattle.link_model.specs.Program.{is_global_named}
 use Rattle.asm_program.specs.declared.keys.Keys.{Keys}
 use Rattle.asm_program.specs.Scopes.{is_same, is_of}
 use Rattle.asm_program.specs.Seen.{declaration_seen}

@@ -7,7 +7,8 @@ use Rattle.link_model.specs.Numbers.{is_function, is_variable, item_functions, i
 use Rattle.asm_program.specs.Scopes.{is_same}
 use Rattle.linked_program.specs.declared.tables.Tables.{Tables}
 use Rattle.linked_program.specs.Alignments.{alignment_in}
-use Rattle.linked_program.specs.Kinds.{function_of, variable_of, external_of, function_key, variable_key, external_key, key_numbers, kind_in}
+use Rattle.linked_program.specs.Kinds.{function_of, variable_of, external_of, function_key, variable_key, external_key, key_numbers}
+use Rattle.linked_program.specs.Kinds.{kind_in}
 
 -- an external with this unit and this name
 abbrev pub is_external_of : ℕ × List ℕ → Declaration → Bool

@@ -19,7 +19,8 @@ fn greater(before: u32, alignment: u8) -> u32
 
 /// The greatest alignment of each name in its scope.
 fn greatest_of<'u>(alloc: Global, all: &[Declared<'u>]) -> Result<Numbers<'u>, AllocError>
-    ensures value { IfOk result (λ numbers. (q : ℕ × List ℕ) → unwrap_or (lookup (is_same q) numbers) 1 ≡ greatest q (map declaration_seen all.now)) }
+    ensures value { IfOk result (λ numbers. (q : ℕ × List ℕ)
+        → unwrap_or (lookup (is_same q) numbers) 1 ≡ greatest q (map declaration_seen all.now)) }
     ensures range { IfOk result (λ numbers. (q : ℕ × List ℕ) → unwrap_or (lookup (is_same q) numbers) 1 ≤ 255) }
 {
     let mut numbers = Numbers::new(alloc);

@@ -5,7 +5,8 @@ ghost use Rattle.std.specs.List.{flat_map, enumerate_from};
 ghost use Rattle.link_model.specs.Program.{Declaration, is_external};
 ghost use Rattle.link_model.specs.Numbers.{is_function, is_variable, item_functions, item_variables, item_externals};
 ghost use Rattle.asm_program.specs.Seen.{declaration_seen};
-ghost use Rattle.linked_program.specs.Kinds.{function_of, variable_of, external_of, function_key, variable_key, external_key, key_numbers, kind_in};
+ghost use Rattle.linked_program.specs.Kinds.{function_of, variable_of, external_of, function_key, variable_key, external_key, key_numbers};
+ghost use Rattle.linked_program.specs.Kinds.{kind_in};
 
 use asm_program::declared::{Declared, Item};
 use asm_syntax::instr::Function;
@@ -40,7 +41,8 @@ pub fn function_keys<'u>(
     keys: &[Declared<'u>],
 ) -> Result<Vec<FunctionKey<'u>>, AllocError>
     requires { length keys.now < 2 ^ 32 }
-    ensures items { IfOk result (λ list. map function_of list.items ≡ flat_map (λ (d : Declaration). item_functions d.item) (map declaration_seen keys.now)) }
+    ensures items { IfOk result
+        (λ list. map function_of list.items ≡ flat_map (λ (d : Declaration). item_functions d.item) (map declaration_seen keys.now)) }
     ensures numbers { IfOk result (λ list. map function_key list.items ≡ key_numbers is_function (map declaration_seen keys.now)) }
 {
     let mut list = Vec::new(alloc);
@@ -61,7 +63,8 @@ pub fn variable_keys<'u>(
     keys: &[Declared<'u>],
 ) -> Result<Vec<VariableKey<'u>>, AllocError>
     requires { length keys.now < 2 ^ 32 }
-    ensures items { IfOk result (λ list. map variable_of list.items ≡ flat_map (λ (d : Declaration). item_variables d.item) (map declaration_seen keys.now)) }
+    ensures items { IfOk result
+        (λ list. map variable_of list.items ≡ flat_map (λ (d : Declaration). item_variables d.item) (map declaration_seen keys.now)) }
     ensures numbers { IfOk result (λ list. map variable_key list.items ≡ key_numbers is_variable (map declaration_seen keys.now)) }
 {
     let mut list = Vec::new(alloc);
@@ -82,7 +85,8 @@ pub fn external_keys<'u>(
     keys: &[Declared<'u>],
 ) -> Result<Vec<ExternalKey<'u>>, AllocError>
     requires { length keys.now < 2 ^ 32 }
-    ensures items { IfOk result (λ list. map external_of list.items ≡ flat_map (λ (d : Declaration). item_externals d.item) (map declaration_seen keys.now)) }
+    ensures items { IfOk result
+        (λ list. map external_of list.items ≡ flat_map (λ (d : Declaration). item_externals d.item) (map declaration_seen keys.now)) }
     ensures numbers { IfOk result (λ list. map external_key list.items ≡ key_numbers is_external (map declaration_seen keys.now)) }
 {
     let mut list = Vec::new(alloc);

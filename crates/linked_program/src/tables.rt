@@ -41,7 +41,8 @@ impl<'u> Tables<'u> {
 
 /// The externals that units declare, each with its unit in place of a scope.
 fn declared_names<'u>(alloc: Global, all: &[Declared<'u>]) -> Result<NumberTable<'u>, AllocError>
-    ensures { IfOk result (λ table. (q : ℕ × List ℕ) → is_some (lookup (is_same q) table) ≡ list_any (is_external_of q) (map declaration_seen all.now)) }
+    ensures { IfOk result (λ table. (q : ℕ × List ℕ)
+        → is_some (lookup (is_same q) table) ≡ list_any (is_external_of q) (map declaration_seen all.now)) }
 {
     let mut names = Numbers::new(alloc);
     for d in all {

@@ -1,5 +1,6 @@
 -- Runs of the flat machine: m steps, or as many as it takes until one ends the run.
-use Rattle.std.specs.Prelude.{ℕ, zero, suc, ◌&&◌, ◌==◌, Bool, List, [], ◌∷◌, drop, slice_get, find, is_some, Option, option_map, option_and_then, unwrap_or}
+use Rattle.std.specs.Prelude.{ℕ, zero, suc, ◌&&◌, ◌==◌, Bool, List, [], ◌∷◌, drop, slice_get, find, is_some, Option, option_map}
+use Rattle.std.specs.Prelude.{option_and_then, unwrap_or}
 use Rattle.std.specs.List.{enumerate_from}
 use Rattle.asm_syntax.specs.declared.unit.Reply.{Reply}
 use Rattle.asm_syntax.specs.declared.unit.Sig.{Sig}

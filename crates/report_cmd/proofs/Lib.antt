@@ -1,8 +1,7 @@
-pub mod ItemLemmas
-pub mod NameLemmas
-pub mod TextLemmas
-pub mod LeftLemmas
-pub mod PlaceLemmas
-pub mod StopLemmas
-pub mod Exactly
-pub mod WordLemmas
+pub mod Values
+pub mod Reading
+pub mod Inputs
+pub mod Conclusions
+pub mod Endings
+pub mod Exact
+pub mod RunConclusions

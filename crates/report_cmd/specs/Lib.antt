@@ -1,13 +1,4 @@
-pub mod Words
-pub mod Steps
-pub mod Members
-pub mod Address
-pub mod Layout
-pub mod Unit
-pub mod Form
-pub mod Text
-pub mod Judged
-pub mod Decided
-pub mod Stops
 pub mod Ends
-pub mod Matches
+pub mod Reports
+pub mod Exactly
+pub mod Answers

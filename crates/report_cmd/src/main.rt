@@ -1,20 +1,22 @@
 //! The program: the commands over files of a folder and standard output.
 #![tactic(auto)]
 
-mod address;
+mod answer;
+#[cfg(test)]
+mod code_rows;
+#[cfg(test)]
+mod data_rows;
 mod edge;
-mod form;
-mod judge;
-mod layout;
-mod reader;
+#[cfg(test)]
+mod refused_rows;
+#[cfg(test)]
+mod rows;
 #[cfg(test)]
 mod tests;
-mod text;
-mod top;
-mod unit;
-mod verdict;
-mod words;
+#[cfg(test)]
+mod upgrade_rows;
 
+use answer::valex;
 use edge::{DirStore, StdoutSink};
 use std::env;
 use std::process::ExitCode;
@@ -30,5 +32,5 @@ fn main(rt: HostRuntime) -> ExitCode {
     };
     let mut store = DirStore::new(&rt, alloc);
     let mut out = StdoutSink::new(rt.stdout());
-    ExitCode::from(top::valex(alloc, words.as_slice(), &mut store, &mut out))
+    ExitCode::from(valex(alloc, words.as_slice(), &mut store, &mut out))
 }

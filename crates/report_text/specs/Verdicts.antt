@@ -7,7 +7,7 @@ use Rattle.coverage.specs.Accounts.{account_seen}
 use Rattle.report_text.specs.Reasons.{refused_line, store_reason, reason_of}
 use Rattle.report_text.specs.Reports.{report_text, fault_text}
 use Rattle.report_text.specs.declared.verdict.Verdict.{Verdict}
-use Rattle.report_text.specs.declared.verdict.Verdict.TheVariants.{Usage, Unread, TooLong, PastTotal, Refused, No, Yes, Done}
+use Rattle.report_text.specs.declared.verdict.Verdict.TheVariants.{Usage, Unread, TooLong, PastTotal, Refused, No, Yes, Done, Differs}
 
 -- the commands, those that are not there yet too
 abbrev pub usage : List ℕ
@@ -23,6 +23,7 @@ text_of words (Refused place r) = refused_line (word_at words place) (reason_of 
 text_of words (No f) = fault_text f
 text_of words (Yes a) = report_text (account_seen a)
 text_of words (Done text) = text
+text_of words (Differs text) = text
 
 abbrev pub status_of : Verdict → ℕ
 status_of Usage = 2
@@ -33,3 +34,4 @@ status_of (Refused place r) = 3
 status_of (No f) = 1
 status_of (Yes a) = 0
 status_of (Done text) = 0
+status_of (Differs text) = 7

@@ -5,6 +5,8 @@ mod owner;
 mod path;
 mod reason;
 mod report;
+#[cfg(test)]
+mod tests;
 pub mod verdict;
 mod verdict_text;
 

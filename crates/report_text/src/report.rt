@@ -5,7 +5,8 @@ ghost use Rattle.isa_model.specs.Word.{word_digits};
 ghost use Rattle.text_model.specs.Lines.{address_digits, line, lines};
 ghost use Rattle.coverage.specs.Accounts.{account_seen};
 ghost use Rattle.coverage.specs.Orders.{claim_seen};
-ghost use Rattle.report_text.specs.Reports.{amount_lines, count_lines, counted, defined_lines, fault_text, found_lines, other_lines, place_lines, report_text, span_text};
+ghost use Rattle.report_text.specs.Reports.{amount_lines, count_lines, counted, defined_lines, fault_text, found_lines, other_lines};
+ghost use Rattle.report_text.specs.Reports.{place_lines, report_text, span_text};
 
 use crate::owner::push_owner;
 use coverage::account::Account;

@@ -26,6 +26,8 @@ pub enum Verdict {
     Yes(Account),
     /// What a command prints that judges nothing.
     Done(ByteList),
+    /// What a run prints where the image does something else than its assembly.
+    Differs(ByteList),
 }
 
 impl Verdict {
@@ -39,6 +41,7 @@ impl Verdict {
             Verdict::Usage => 2,
             Verdict::TooLong(..) | Verdict::PastTotal(_) | Verdict::Refused(..) => 3,
             Verdict::Unread(_) => 4,
+            Verdict::Differs(_) => 7,
         }
     }
 }

@@ -55,7 +55,7 @@ pub fn text(alloc: Global, words: &[String], verdict: Verdict) -> Result<Vec<u8>
         Verdict::Refused(place, refusal) => refusal_line(alloc, word(words, place), &refusal),
         Verdict::No(fault) => fault_text(alloc, &fault),
         Verdict::Yes(account) => report_text(alloc, &account),
-        Verdict::Done(text) => return Ok(text.into_vec()),
+        Verdict::Done(text) | Verdict::Differs(text) => return Ok(text.into_vec()),
     }?;
     Ok(text.into_bytes())
 }

@@ -16,7 +16,8 @@ find_more p (y ∷ ys) zero x h = let s : y ≡ x = cc in rw s refl
 find_more p (y ∷ ys) (suc i) x h = let e : suc i + 1 ≡ suc (i + 1) = omega arith in rw e (find_more p ys i x h)
 
 -- at a loop over the list, where one element passes and where it does not
-pub any_hit : {X : Type 0} (p : X → Bool) (xs : List X) (i : ℕ) (x : X) (whole : Bool) → slice_get xs i ≡ Some x → p x ≡ true → list_any p (drop i xs) ≡ whole → true ≡ whole
+pub any_hit : {X : Type 0} (p : X → Bool) (xs : List X) (i : ℕ) (x : X) (whole : Bool) → slice_get xs i ≡ Some x → p x ≡ true
+    → list_any p (drop i xs) ≡ whole → true ≡ whole
 any_hit p xs i x whole is hit e = sym (any_more p xs i x is ∙ rw hit refl) ∙ e
 
 pub any_miss : {X : Type 0} (p : X → Bool) (xs : List X) (i : ℕ) (x : X) (whole : Bool) →

@@ -8,13 +8,15 @@ use Rattle.layout_model.specs.Layouts.{Layout}
 use Rattle.asm_syntax.specs.declared.unit.Unit as syntax
 use Rattle.link_model.specs.declared.link_error.LinkError.{LinkError}
 use Rattle.link_model.specs.Candidates.{Inputs}
+use Rattle.link_model.specs.Program.{Program}
+use Rattle.machine_model.specs.Faithful.{Faithful}
 use Rattle.link_model.specs.LinkTests.{link_tests}
 use Rattle.link_model.specs.Account.{Account}
 use Rattle.judge_model.specs.Refused.{Refused, told}
 use Rattle.judge_model.specs.Judge.{or_refused, layout_in, image_in, units_in, link_refused, linked, inputs_of, IsAccount}
 use Rattle.simulation.specs.declared.judge.JudgeError.{JudgeError}
 use Rattle.simulation.specs.declared.judge.JudgeError.TheVariants.{Refused as Refusing, No, Memory}
-use Rattle.simulation.specs.Judged.{Tells, IsRefusedBy, Refuses, IsJudgedBy, IsJudgedOf, IsAccountOf, after_reading}
+use Rattle.simulation.specs.Judged.{Tells, IsRefusedBy, Refuses, IsJudgedBy, IsJudgedOf, IsAccountOf, IsFaithful, IsFaithfulOf, after_reading}
 
 -- ---- linking
 
@@ -117,3 +119,20 @@ module _ (layout image : List ℕ) (files : List (List ℕ)) where
       → IfErr r (λ j. IsJudgedOf (after_reading v l us) j) → IfErr r (λ j. IsJudgedBy layout image files j)
   all_no l v us (Ok a) e d u h = tt
   all_no l v us (Err j) e d u h = by_linking l v us j e d u h
+
+  pub all_faithful : {A : Type 0} (l : Layout) (v : Image) (us : List syntax.Unit) (r : Result A JudgeError)
+      → layout_in layout ≡ Ok l → image_in image ≡ Ok v → units_in 0 files ≡ Ok us
+      → IfOk r (λ a. IsFaithfulOf (after_reading v l us)) → IfOk r (λ a. IsFaithful layout image files)
+  all_faithful l v us (Ok a) e d u h = (h.0, all_read l v us e d u ∙ h.1, h.2)
+  all_faithful l v us (Err j) e d u h = tt
+
+-- what holds of inputs that were read, where the units link
+pub faithful_of : (v : Image) (l : Layout) (us : List syntax.Unit) (entry : List ℕ) (p : Program) → entry ≡ l.entry → linked us entry ≡ Ok tt
+    → p ≡ record { units = us; entry = entry } → Faithful (record { image = v; layout = l; program = p }) → IsFaithfulOf (after_reading v l us)
+faithful_of v l us entry p same link is faith =
+    let q : p ≡ record { units = us; entry = l.entry } = is ∙ ap (λ e. record { units = us; entry = e }) same in
+    let ok : linked us l.entry ≡ Ok tt = ap (linked us) (sym same) ∙ link in (
+      record { image = v; layout = l; program = record { units = us; entry = l.entry } },
+      rw ok refl,
+      subst (λ (x : Program). Faithful (record { image = v; layout = l; program = x })) q faith,
+    )

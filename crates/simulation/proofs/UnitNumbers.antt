@@ -1,5 +1,6 @@
 -- A fault of linking names one of the units.
-use Rattle.std.proofs.Common.{◌≡◌, ℕ, zero, suc, ◌+◌, ◌<◌, Bool, true, false, ◌&&◌, List, [], ◌∷◌, length, Some, sym, arith, if◌then◌else◌, subst}
+use Rattle.std.proofs.Common.{◌≡◌, ℕ, zero, suc, ◌+◌, ◌<◌, Bool, true, false, ◌&&◌, List, [], ◌∷◌, length, Some, sym, arith, if◌then◌else◌}
+use Rattle.std.proofs.Common.{subst}
 use Rattle.std.specs.Prelude.{slice_get, flat_map}
 use Rattle.std.specs.List.{enumerate_from}
 use Rattle.ordered_tests.specs.Checks.{Check, first_fault}
@@ -7,8 +8,10 @@ use Rattle.ordered_tests.specs.Lists.{EachOf}
 use Rattle.ordered_tests.proofs.Lists.{each_append}
 use Rattle.asm_syntax.specs.declared.unit.Unit.{Unit}
 use Rattle.link_model.specs.declared.link_error.LinkError.{LinkError}
-use Rattle.link_model.specs.Program.{Item, Declaration, unit_declarations, declarations, keys, is_key, same_key, is_global_definition, joins, is_external, names_used}
-use Rattle.link_model.specs.LinkTests.{unit_tests, repeat_tests, unit_name_tests, name_tests, same_external, item_size, size_tests, link_tests}
+use Rattle.link_model.specs.Program.{Item, Declaration, unit_declarations, declarations, keys, is_key, same_key, is_global_definition}
+use Rattle.link_model.specs.Program.{joins, is_external, names_used}
+use Rattle.link_model.specs.LinkTests.{unit_tests, repeat_tests, unit_name_tests, name_tests, same_external, item_size, size_tests}
+use Rattle.link_model.specs.LinkTests.{link_tests}
 use Rattle.link_laws.proofs.Items.{each_item, each_mapped, each_filter, each_first, number_from}
 use Rattle.simulation.specs.Units.{NamesUnit}
 

@@ -11,7 +11,8 @@ use Rattle.link_model.specs.Binding.{addresses}
 use Rattle.link_model.specs.Parts.{Matches}
 use Rattle.link_model.specs.Passes.{First}
 use Rattle.judge_model.specs.Refused.{Refused, told}
-use Rattle.judge_model.specs.Judge.{linked, IsFirstFault, IsFirstRefusal}
+use Rattle.judge_model.specs.Judge.{inputs_of, linked, IsFirstFault, IsFirstRefusal}
+use Rattle.machine_model.specs.Faithful.{Faithful}
 use Rattle.simulation.specs.declared.judge.JudgeError.{JudgeError}
 use Rattle.simulation.specs.declared.judge.JudgeError.TheVariants.{Refused as Refusing, No, Memory}
 
@@ -62,3 +63,12 @@ abbrev pub IsJudgedOf : Result Inputs Refused → JudgeError → Type 0
 IsJudgedOf due (Refusing r) = Tells (told r) due
 IsJudgedOf due (No f) = (g : Inputs) × (due ≡ Ok g) × First g f
 IsJudgedOf due Memory = ⊤
+
+-- ---- what a yes implies
+
+-- of inputs that are due, the image does what the assembly does
+abbrev pub IsFaithfulOf : Result Inputs Refused → Type 0
+IsFaithfulOf due = (g : Inputs) × (due ≡ Ok g) × Faithful g
+
+abbrev pub IsFaithful : List ℕ → List ℕ → List (List ℕ) → Type 0
+IsFaithful layout image units = IsFaithfulOf (inputs_of layout image units)

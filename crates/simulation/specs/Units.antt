@@ -2,7 +2,8 @@
 use Rattle.std.specs.Prelude.{◌<◌, ℕ, ⊤, List, ◌++◌, Result, Ok, Err}
 use Rattle.asm_syntax.specs.declared.unit.Unit as syntax
 use Rattle.link_model.specs.declared.link_error.LinkError.{LinkError}
-use Rattle.link_model.specs.declared.link_error.LinkError.TheVariants.{UnitTwice, DefinedTwice, Undeclared, SigDiffers, NoEntry, Memory, TooBig}
+use Rattle.link_model.specs.declared.link_error.LinkError.TheVariants.{UnitTwice, DefinedTwice, Undeclared, SigDiffers, NoEntry, Memory}
+use Rattle.link_model.specs.declared.link_error.LinkError.TheVariants.{TooBig}
 use Rattle.judge_model.specs.Refused.{Refused}
 
 -- those that were read, before the others

@@ -6,7 +6,7 @@ ghost use Rattle.limits.specs.declared.TheConstants.{MOST_UNITS};
 ghost use Rattle.asm_shapes.specs.Units.{unit_fits};
 ghost use Rattle.coverage.specs.Accounts.{account_seen};
 ghost use Rattle.judge_model.specs.Judge.{IsAccount};
-ghost use Rattle.simulation.specs.Judged.{contents, after_reading, IsAccountOf, IsJudgedBy, IsJudgedOf};
+ghost use Rattle.simulation.specs.Judged.{contents, after_reading, IsAccountOf, IsFaithful, IsFaithfulOf, IsJudgedBy, IsJudgedOf};
 
 use crate::inputs::{linked, read_image, read_layout, read_units};
 use asm_syntax::unit::Unit;
@@ -17,6 +17,7 @@ use judge_model::refusal::Refusal;
 use key_passes::fault::CheckFault;
 use layout_file::layout::Layout;
 use link_model::fault::Fault;
+use start_laws::laws::matches_are_faithful;
 use std::alloc::Global;
 
 /// Why an image is not accepted.
@@ -39,12 +40,17 @@ fn judge_units(
     requires few { length units.now ≤ MOST_UNITS }
     requires fit { list_all unit_fits units.now ≡ true }
     ensures yes { IfOk result (λ a. IsAccountOf (after_reading view.now layout.now units.now) (account_seen a)) }
+    ensures faithful { IfOk result (λ _. IsFaithfulOf (after_reading view.now layout.now units.now)) }
     ensures error { IfErr result (IsJudgedOf (after_reading view.now layout.now units.now)) }
 {
     let program = match linked(alloc, units, layout.entry()) {
         Ok(program) => program,
         Err(error) => return Err(error),
     };
+    let _segments = view.segments();
+    let _stack = layout.stack();
+    let _units = program.units();
+    matches_are_faithful();
     match check(alloc, view, layout, &program) {
         Ok(account) => Ok(account),
         Err(CheckFault::No(fault)) => Err(JudgeError::No(fault)),
@@ -52,8 +58,8 @@ fn judge_units(
     }
 }
 
-/// The account of an image that matches the units by the layout. The layout, the image and the units are read in this order, and
-/// the first refusal is told.
+/// The account of an image that matches the units by the layout; such an image does what the units' assembly does. The layout, the
+/// image and the units are read in this order, and the first refusal is told.
 pub fn judge(
     alloc: Global,
     image: &[u8],
@@ -62,6 +68,7 @@ pub fn judge(
 ) -> Result<Account, JudgeError>
     requires { length units.now ≤ MOST_UNITS }
     ensures yes { IfOk result (λ a. IsAccount layout.now image.now (contents units.now) (account_seen a)) }
+    ensures faithful { IfOk result (λ _. IsFaithful layout.now image.now (contents units.now)) }
     ensures error { IfErr result (IsJudgedBy layout.now image.now (contents units.now)) }
 {
     let layout = match read_layout(alloc, layout) {

@@ -1,5 +1,6 @@
 -- The addresses and the tests of all keys, one key after another.
-use Rattle.std.proofs.Common.{◌≡◌, ℕ, ◌+◌, ◌<◌, inl, inr, Bool, true, false, List, [], ◌∷◌, ◌++◌, length, map, take, drop, get_or, Option, Some, None, refl, sym, ◌∙◌, ap, subst, arith, append-nil}
+use Rattle.std.proofs.Common.{◌≡◌, ℕ, ◌+◌, ◌<◌, inl, inr, Bool, true, false, List, [], ◌∷◌, ◌++◌, length, map, take, drop, get_or, Option}
+use Rattle.std.proofs.Common.{Some, None, refl, sym, ◌∙◌, ap, subst, arith, append-nil}
 use Rattle.std.specs.Prelude.{is_some, unwrap_or, slice_get}
 use Rattle.std.specs.List.{list_all, flat_map, enumerate_from}
 use Rattle.std.proofs.lemmas.List.{take_more, take_all, take-append-drop, take-map, map_push, length-map, get_or-map}
@@ -29,7 +30,8 @@ next_of f xs k x lt is =
 numbered_at : (ks : List Declaration) (k : ℕ) (d : Declaration) → slice_get ks k ≡ Some d → get_or (enumerate_from 0 ks) k (k, d) ≡ (k, d)
 numbered_at ks k d at =
     get_or-enumerate_from 0 ks k (k, d) (slice_get_within ks k d at)
-    ∙ (let e : 0 + k ≡ k = omega arith in ap (λ (n : ℕ). (n, get_or ks k d)) e ∙ ap (λ (x : Declaration). (k, x)) (get_or_from_slice_get ks k d d at))
+    ∙ (let e : 0 + k ≡ k = omega arith in ap (λ (n : ℕ). (n, get_or ks k d)) e
+    ∙ ap (λ (x : Declaration). (k, x)) (get_or_from_slice_get ks k d d at))
 
 numbered_within : (ks : List Declaration) (k : ℕ) (d : Declaration) → slice_get ks k ≡ Some d → k < length (enumerate_from 0 ks)
 numbered_within ks k d at = omega (arith, slice_get_within ks k d at, length-enumerate_from 0 ks)
@@ -44,12 +46,14 @@ bound_more g k d a at is =
     next_of (address_of g (all_uses g)) (enumerate_from 0 ks) k (k, d) (numbered_within ks k d at) (numbered_at ks k d at)
     ∙ ap (λ o. take k (binding g) ++ o ∷ []) is
 
-pub bound_all : (g : Inputs) (n : ℕ) (values : List ℕ) → n ≡ length (keys g.program.units) → map (λ (a : ℕ). Some a) values ≡ take n (binding g)
+pub bound_all : (g : Inputs) (n : ℕ) (values : List ℕ) → n ≡ length (keys g.program.units)
+    → map (λ (a : ℕ). Some a) values ≡ take n (binding g)
     → map (λ (a : ℕ). Some a) values ≡ binding g
 unfolding binding
 bound_all g n values count is =
     let ks = keys g.program.units in
-    is ∙ take_all n (binding g) (omega (arith, count, length-map (enumerate_from 0 ks) (address_of g (all_uses g)), length-enumerate_from 0 ks))
+    is ∙ take_all n (binding g)
+    (omega (arith, count, length-map (enumerate_from 0 ks) (address_of g (all_uses g)), length-enumerate_from 0 ks))
 
 same_values : (values : List ℕ) → map (λ (b : Option ℕ). unwrap_or b 0) (map (λ (a : ℕ). Some a) values) ≡ values
 same_values [] = refl
@@ -64,7 +68,8 @@ each_is_some : (values : List ℕ) → list_all (λ (a : Option ℕ). is_some a)
 each_is_some [] = refl
 each_is_some (a ∷ values) = each_is_some values
 
-pub each_bound : (g : Inputs) (values : List ℕ) → map (λ (a : ℕ). Some a) values ≡ binding g → list_all (λ (a : Option ℕ). is_some a) (binding g) ≡ true
+pub each_bound : (g : Inputs) (values : List ℕ) → map (λ (a : ℕ). Some a) values ≡ binding g
+    → list_all (λ (a : Option ℕ). is_some a) (binding g) ≡ true
 each_bound g values is = subst (λ bs. list_all (λ (a : Option ℕ). is_some a) bs ≡ true) is (each_is_some values)
 
 -- ---- tests
@@ -83,7 +88,8 @@ one_fails : (c : Check BindFault) → c.passes ≡ false → first_fault (c ∷ 
 one_fails c h = rw h refl
 
 pub passed_more : (g : Inputs) (k : ℕ) (d : Declaration) (a : ℕ) → slice_get (keys g.program.units) k ≡ Some d
-    → address_of g (all_uses g) (k, d) ≡ Some a → first_fault (take k (bind_tests g)) ≡ None → first_fault (take (k + 1) (bind_tests g)) ≡ None
+    → address_of g (all_uses g) (k, d) ≡ Some a → first_fault (take k (bind_tests g)) ≡ None
+    → first_fault (take (k + 1) (bind_tests g)) ≡ None
 passed_more g k d a at is before =
     let c : Check BindFault = bind_test g (all_uses g) (k, d) in
     let passes : c.passes ≡ true = ap (λ (o : Option ℕ). is_some o) is in

@@ -1,5 +1,6 @@
 -- The candidates of each key, as a list by the number of the key.
-use Rattle.std.proofs.Common.{◌≡◌, ℕ, zero, suc, ◌+◌, ◌<◌, ◌≤◌, ◌^◌, inl, inr, Bool, List, [], ◌∷◌, length, get_or, map, Option, Some, None, refl, sym, ◌∙◌, ap, subst, arith}
+use Rattle.std.proofs.Common.{◌≡◌, ℕ, zero, suc, ◌+◌, ◌<◌, ◌≤◌, ◌^◌, inl, inr, Bool, List, [], ◌∷◌, length, get_or, map, Option, Some, None}
+use Rattle.std.proofs.Common.{refl, sym, ◌∙◌, ap, subst, arith}
 use Rattle.std.specs.Prelude.{All, Vec, filter, nat_lt, option_map, slice_get}
 use Rattle.std.specs.Global.{Global}
 use Rattle.std.specs.Option.{option_map_or}
@@ -109,7 +110,8 @@ same_candidates_of : (v : Image) (d : Declaration) → candidates v d ≡ offere
 unfolding candidates
 same_candidates_of v d = refl
 
-pub set_of_key : (v : Image) (ks : List Declaration) (k : ℕ) (d : Declaration) (set : List ℕ) → slice_get (all_offered v.symbols ks) k ≡ Some set
+pub set_of_key : (v : Image) (ks : List Declaration) (k : ℕ) (d : Declaration) (set : List ℕ)
+    → slice_get (all_offered v.symbols ks) k ≡ Some set
     → slice_get ks k ≡ Some d → set ≡ candidates v d
 set_of_key v ks k d set at key =
     let e : Some (offered v.symbols d) ≡ Some set =

@@ -1,5 +1,6 @@
 -- The address of one key, or its fault.
-use Rattle.std.proofs.Common.{◌≡◌, ℕ, ◌+◌, ◌<◌, ◌^◌, inl, inr, Bool, true, false, List, [], ◌∷◌, length, get_or, Fits, w32, Option, Some, None, refl, sym, ◌∙◌, ap, subst, arith}
+use Rattle.std.proofs.Common.{◌≡◌, ℕ, ◌+◌, ◌<◌, ◌^◌, inl, inr, Bool, true, false, List, [], ◌∷◌, length, get_or, Fits, w32, Option, Some}
+use Rattle.std.proofs.Common.{None, refl, sym, ◌∙◌, ap, subst, arith}
 use Rattle.std.specs.Prelude.{All, filter, count_by, Ok, Err, ◌==◌}
 use Rattle.std.specs.List.{find}
 use Rattle.std.specs.Option.{option_or}
@@ -81,14 +82,16 @@ pub settles_none : (g : Inputs) (uses : List Use) (k : ℕ) (d : Declaration) (s
     → All (λ t. t < 2 ^ 32) ts → ts ≡ candidates g.image d → IsOpen g.layout uses k set → None ≡ known_address g d
     → find (contains set) ts ≡ None → f ≡ fault_of_key k (length ts) 0 → SettlesKey g uses (k, d) (Err f)
 settles_none g uses k d set ts f small is open_here known none fault =
-    let empty : [] ≡ fitting_candidates g uses (k, d) = sym (none_found (contains set) ts none) ∙ fits g uses k d set ts small is open_here in
+    let empty : [] ≡ fitting_candidates g uses (k, d) = sym (none_found (contains set) ts none)
+    ∙ fits g uses k d set ts small is open_here in
     let offered : length ts ≡ length (candidates g.image d) = ap length is in
     let fit : 0 ≡ length (fitting_candidates g uses (k, d)) = ap length empty in (
       settled_fitting g uses k d [] known empty,
       fault ∙ (ap (λ m. fault_of_key k m 0) offered ∙ ap (fault_of_key k (length (candidates g.image d))) fit),
     )
 
-pub settles_one : (g : Inputs) (uses : List Use) (k : ℕ) (d : Declaration) (set : AddressSet) (ts : List ℕ) (a : ℕ) → All (λ t. t < 2 ^ 32) ts
+pub settles_one : (g : Inputs) (uses : List Use) (k : ℕ) (d : Declaration) (set : AddressSet) (ts : List ℕ) (a : ℕ)
+    → All (λ t. t < 2 ^ 32) ts
     → ts ≡ candidates g.image d → IsOpen g.layout uses k set → None ≡ known_address g d → find (contains set) ts ≡ Some a
     → 1 ≡ count_by (contains set) ts → SettlesKey g uses (k, d) (Ok a)
 settles_one g uses k d set ts a small is open_here known some one = only (some_found (contains set) ts a some)
@@ -112,7 +115,8 @@ pub settles_several : (g : Inputs) (uses : List Use) (k : ℕ) (d : Declaration)
     → find (contains set) ts ≡ Some a → n ≡ count_by (contains set) ts → (n ≡ 1 → ⊥) → SettlesKey g uses (k, d) (Err (SeveralFit k n))
 settles_several g uses k d set ts a n small is open_here known some count several = two (some_found (contains set) ts a some)
   where
-    two : ((ys : List ℕ) × (filter (contains set) ts ≡ a ∷ ys)) → (address_of g uses (k, d) ≡ None) × (SeveralFit k n ≡ (bind_test g uses (k, d)).fault)
+    two : ((ys : List ℕ) × (filter (contains set) ts ≡ a ∷ ys))
+        → (address_of g uses (k, d) ≡ None) × (SeveralFit k n ≡ (bind_test g uses (k, d)).fault)
     two ([], e) = absurd (several (omega (arith, count, length-filter (contains set) ts, ap length e)))
     two (y ∷ ys, e) =
         let fitting : a ∷ y ∷ ys ≡ fitting_candidates g uses (k, d) = sym e ∙ fits g uses k d set ts small is open_here in
@@ -121,5 +125,6 @@ settles_several g uses k d set ts a n small is open_here known some count severa
         let some_fit : 0 < length (fitting_candidates g uses (k, d)) = omega (arith, sym (ap length fitting)) in
         let offered : 0 < length (candidates g.image d) = omega (arith, some_offered (contains set) ts a some, ap length is) in (
           settled_fitting g uses k d (a ∷ y ∷ ys) known fitting,
-          ap (SeveralFit k) size ∙ several_fault k (length (candidates g.image d)) (length (fitting_candidates g uses (k, d))) offered some_fit,
+          ap (SeveralFit k) size
+              ∙ several_fault k (length (candidates g.image d)) (length (fitting_candidates g uses (k, d))) offered some_fit,
         )

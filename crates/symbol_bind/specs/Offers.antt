@@ -1,5 +1,6 @@
 -- What symbols offer for a name.
-use Rattle.std.specs.Prelude.{◌≡◌, ℕ, ◌+◌, ◌*◌, ◌<◌, Bool, List, [], length, map, filter, Option, Some, None, option_map, slice_get, slice_index, slice_index_or, if◌then◌else◌, Vec}
+use Rattle.std.specs.Prelude.{◌≡◌, ℕ, ◌+◌, ◌*◌, ◌<◌, Bool, List, [], length, map, filter, Option, Some, None, option_map, slice_get}
+use Rattle.std.specs.Prelude.{slice_index, slice_index_or, if◌then◌else◌, Vec}
 use Rattle.std.specs.Global.{Global}
 use Rattle.std.specs.Option.{option_map_or}
 use Rattle.image_model.specs.Image.{Symbol}

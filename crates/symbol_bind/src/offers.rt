@@ -1,6 +1,7 @@
 //! The candidates of all keys, once for all keys of a name.
 
-ghost use Rattle.std.specs.Prelude.{◌≡◌, ◌≤◌, ◌<◌, ◌+◌, ◌*◌, ◌-◌, ◌^◌, ℕ, All, length, slice_get, IfOk, Some, None, slice_index_or, if◌then◌else◌};
+ghost use Rattle.std.specs.Prelude.{◌≡◌, ◌≤◌, ◌<◌, ◌+◌, ◌*◌, ◌-◌, ◌^◌, ℕ, All, length, slice_get, IfOk, Some, None, slice_index_or};
+ghost use Rattle.std.specs.Prelude.{if◌then◌else◌};
 ghost use Rattle.image_model.specs.declared.symbol.TheConstants.{NAME_START_BYTES};
 ghost use Rattle.link_model.specs.Program.{keys, name_of, is_static};
 ghost use Rattle.link_model.specs.Sets.{set_of};

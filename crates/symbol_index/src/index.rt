@@ -1,5 +1,6 @@
 // The numbers of an image's symbols, by name and then by number.
-ghost use Rattle.std.specs.Prelude.{◌≡◌, ◌<◌, ◌≤◌, ◌+◌, ◌-◌, ◌*◌, ◌^◌, ℕ, length, IfOk, IfNone, slice_get, slice_index, Some, bytes_eq, false, option_map};
+ghost use Rattle.std.specs.Prelude.{◌≡◌, ◌<◌, ◌≤◌, ◌+◌, ◌-◌, ◌*◌, ◌^◌, ℕ, length, IfOk, IfNone, slice_get, slice_index, Some, bytes_eq};
+ghost use Rattle.std.specs.Prelude.{false, option_map};
 ghost use Rattle.std.specs.List.{list_any, range_with_len};
 ghost use Rattle.std.specs.List.Sorted.{IsPermutation, IsSortedBy};
 ghost use Rattle.std.specs.Cmp.Lexicographic.{slice_cmp};

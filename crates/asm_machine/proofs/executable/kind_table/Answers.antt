@@ -20,4 +20,5 @@ push-requires-clause-externals g c =
 pub loop-k-preserved : goal.loop-k-preserved
 loop-k-preserved g c =
     kinds_step (g.P.KeyedProgram.program c.args.p.now).units c.loop-k.k c.loop-k.table c.push.new.self (declared c.key-key.result)
-    c.loop-k.invariant c.key-key.ensures.declared c.in_ok-push.ensures.kinds c.push.ensures.functions c.push.ensures.variables c.push.ensures.externals
+    c.loop-k.invariant c.key-key.ensures.declared c.in_ok-push.ensures.kinds c.push.ensures.functions c.push.ensures.variables
+    c.push.ensures.externals

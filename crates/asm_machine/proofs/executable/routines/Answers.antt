@@ -12,11 +12,13 @@ loop-k-preserved g c =
     let units = (g.P.KeyedProgram.program c.args.p.now).units in
     let d = declared c.key-key.result in
     let f : Declaration → List Routine = λ e. item_routines units e.unit e.item in
-    c.in_ok-push_routine.ensures ∙ ap (λ (l : List Routine). l ++ f d) c.loop-k.invariant ∙ sym (flat_map_with f (keys units) c.loop-k.k d c.key-key.ensures.declared)
+    c.in_ok-push_routine.ensures ∙ ap (λ (l : List Routine). l ++ f d) c.loop-k.invariant
+    ∙ sym (flat_map_with f (keys units) c.loop-k.k d c.key-key.ensures.declared)
 
 pub returns : goal.returns
 unfolding routines
 returns g c =
     let units = (g.P.KeyedProgram.program c.args.p.now).units in
     let f : Declaration → List Routine = λ e. item_routines units e.unit e.item in
-    c.loop-k.invariant ∙ ap (flat_map f) (all_taken (keys units) c.loop-k.k c.key_count-k-end.result c.key_count-k-end.ensures.count (omega arith))
+    c.loop-k.invariant ∙ ap (flat_map f)
+    (all_taken (keys units) c.loop-k.k c.key_count-k-end.result c.key_count-k-end.ensures.count (omega arith))

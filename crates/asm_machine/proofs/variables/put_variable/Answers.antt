@@ -9,6 +9,7 @@ pub returns : goal.returns
 returns g c =
     let f = named_value (g.P.KeyedProgram.program c.args.p.now).units c.args.unit in
     let m = c.alloc_block.new.self in
-    let P : List Init → Type 0 = λ xs. c.put_items.new.blocks ≡ record m { live = update c.in_ok-b.b (λ k. set_cells k 0 (cells_from f 0 xs)) m.live } in
+    let P : List Init → Type 0 = λ xs.
+    c.put_items.new.blocks ≡ record m { live = update c.in_ok-b.b (λ k. set_cells k 0 (cells_from f 0 xs)) m.live } in
     variable_made f c.in_ok-b.b c.size_of.result c.args.x.now.writable c.args.blocks.now m c.put_items.new.blocks c.args.x.now.init
     c.in_ok-b.ensures.made.0 c.in_ok-b.ensures.made.1 c.size_of.ensures.value (subst P c.items.ensures c.put_items.ensures)

@@ -15,7 +15,12 @@ loop-k-init g c =
 
 pub put_key-requires-clause-next : goal.put_key-requires-clause-next
 put_key-requires-clause-next g c =
-    omega (arith, number_few is_variable (g.P.KeyedProgram.program c.args.p.now).units c.loop-k.k, c.loop-k.invariant.next, c.key_count-k-end.ensures.few)
+    omega (
+      arith,
+      number_few is_variable (g.P.KeyedProgram.program c.args.p.now).units c.loop-k.k,
+      c.loop-k.invariant.next,
+      c.key_count-k-end.ensures.few,
+    )
 
 pub loop-k-preserved : goal.loop-k-preserved
 loop-k-preserved g c =
@@ -30,4 +35,9 @@ returns-clause-made g c =
 
 pub returns-clause-few : goal.returns-clause-few
 returns-clause-few g c =
-    omega (arith, number_few is_variable (g.P.KeyedProgram.program c.args.p.now).units c.loop-k.k, c.loop-k.invariant.next, c.key_count-k-end.ensures.few)
+    omega (
+      arith,
+      number_few is_variable (g.P.KeyedProgram.program c.args.p.now).units c.loop-k.k,
+      c.loop-k.invariant.next,
+      c.key_count-k-end.ensures.few,
+    )

@@ -1,4 +1,5 @@
-use Rattle.std.proofs.Common.{◌≡◌, ◌∙◌, ◌+◌, ◌<◌, ◌≤◌, ℕ, not, List, [], ◌∷◌, ◌++◌, length, get_or, map, cond, sym, ap, arith, Some, length-append, Vec, Global}
+use Rattle.std.proofs.Common.{◌≡◌, ◌∙◌, ◌+◌, ◌<◌, ◌≤◌, ℕ, not, List, [], ◌∷◌, ◌++◌, length, get_or, map, cond, sym, ap, arith, Some}
+use Rattle.std.proofs.Common.{length-append, Vec, Global}
 use Rattle.std.specs.List.{list_any, position_from}
 use Rattle.std.specs.Map.{lookup}
 use Rattle.std.proofs.lemmas.List.{map-append}
@@ -48,19 +49,29 @@ loop-d-preserved c =
           ∙ (ap (map declaration_seen) w.in_ok-push.ensures.items ∙ map-append declaration_seen items (c.d-item.result ∷ [])) in
           let count : w.len.result ≡ length ks = w.len.ensures ∙ (c.loop-d.list.ok.0 ∙ sym (seen_length items)) in
           record {
-            list = ap (λ l. keys_with l ds (i + 1)) grown ∙ key_added ks ds i d lt at (first_of_each same_key [] ds) c.loop-d.invariant.list fresh;
+            list = ap (λ l. keys_with l ds (i + 1)) grown ∙ key_added ks ds i d lt at (first_of_each same_key [] ds)
+                c.loop-d.invariant.list fresh;
             numbers = λ q.
                 ap (lookup (is_same q)) w.numbers-is
                 ∙ (w.in_ok-set.ensures q
                 ∙ ((λ k. cond (is_same q (named k)) (Some (count k)) (c.loop-d.invariant.numbers q k))
                 ∙ (place_more q ks d fresh ∙ ap (position_from (is_of q) 0) (sym grown))));
-            few = omega (arith, ap length grown, seen_length c.if-is_none.list.items, seen_length items, length-append ks (d ∷ []), c.loop-d.invariant.few);
+            few = omega (
+              arith,
+              ap length grown,
+              seen_length c.if-is_none.list.items,
+              seen_length items,
+              length-append ks (d ∷ []),
+              c.loop-d.invariant.few,
+            );
           }
       | else-is_none w ↦
           let old = there ∙ ap not w.if-is_none.false in
-          let same : map declaration_seen c.if-is_none.list.items ≡ ks = ap (λ (l : Vec Declared Global). map declaration_seen l.items) w.list-is in
+          let same : map declaration_seen c.if-is_none.list.items ≡ ks =
+          ap (λ (l : Vec Declared Global). map declaration_seen l.items) w.list-is in
           record {
-            list = ap (λ l. keys_with l ds (i + 1)) same ∙ key_passed ks ds i d lt at (first_of_each same_key [] ds) c.loop-d.invariant.list old;
+            list = ap (λ l. keys_with l ds (i + 1)) same ∙ key_passed ks ds i d lt at (first_of_each same_key [] ds)
+                c.loop-d.invariant.list old;
             numbers = λ q.
                 ap (lookup (is_same q)) w.numbers-is ∙ (c.loop-d.invariant.numbers q ∙ ap (position_from (is_of q) 0) (sym same));
             few = omega (arith, ap length same, seen_length c.if-is_none.list.items, seen_length items, c.loop-d.invariant.few);

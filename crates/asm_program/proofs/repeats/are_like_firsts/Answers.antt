@@ -20,7 +20,8 @@ returns-then-not-is_like_first c =
     let ds = map declaration_seen c.args.list.now in let i = c.loop-d.d-index in let d = declaration_seen c.d-item.result in
     let short : i < length c.args.list.now = omega arith in
     let long : length ds ≡ length c.args.list.now = length-map c.args.list.now declaration_seen in
-    let at : get_or ds i d ≡ d = get_or-map declaration_seen c.args.list.now i c.d-item.result d short ∙ ap declaration_seen (sym c.d-item.is) in
+    let at : get_or ds i d ≡ d = get_or-map declaration_seen c.args.list.now i c.d-item.result d short
+    ∙ ap declaration_seen (sym c.d-item.is) in
     let wrong : Declaration → Result ⊤ LinkError = λ d. Err (fault d) in
     told_fault (told c.fault_of.result) (fault d) _ c.fault_of.ensures
     (place_fails (λ (d : ℕ × Declaration). check (is_like_earlier alike (take d.0 ds) d.1) (fault d.1)) ds
@@ -37,7 +38,8 @@ loop-d-preserved c =
     let short : i < length c.args.list.now = omega arith in
     let long : length ds ≡ length c.args.list.now = length-map c.args.list.now declaration_seen in
     let lt : i < length ds = omega (arith, long) in
-    let at : get_or ds i d ≡ d = get_or-map declaration_seen c.args.list.now i c.d-item.result d short ∙ ap declaration_seen (sym c.d-item.is) in
+    let at : get_or ds i d ≡ d = get_or-map declaration_seen c.args.list.now i c.d-item.result d short
+    ∙ ap declaration_seen (sym c.d-item.is) in
     record {
       firsts = λ v p.
           ap (list_all (λ e. not (bytes_eq (name_of e) v) || alike e.item p)) (take_more ds i d lt ∙ ap (λ e. take i ds ++ e ∷ []) at)

@@ -11,7 +11,8 @@ use Rattle.asm_program.proofs.repeats.are_like_firsts.Given as goal
 abbrev pub invariant-loop-d : goal.invariant-loop-d
 invariant-loop-d l = record {
   firsts : StandFor (alike_by l.rule) l.firsts (take l.d-index (map declaration_seen l.list));
-  left : fault_from (λ (d : ℕ × Declaration). check (is_like_earlier (alike_by l.rule) (take d.0 (map declaration_seen l.list)) d.1) (fault_by l.rule d.1))
+  left : fault_from (λ (d : ℕ × Declaration).
+      check (is_like_earlier (alike_by l.rule) (take d.0 (map declaration_seen l.list)) d.1) (fault_by l.rule d.1))
       (map declaration_seen l.list) l.d-index
       ≡ first_fault (repeat_tests (alike_by l.rule) (fault_by l.rule) (map declaration_seen l.list));
 }

@@ -7,6 +7,7 @@ use Rattle.asm_program.proofs.sizes.sizes_fit.Given as goal
 
 abbrev pub invariant-loop-d : goal.invariant-loop-d
 invariant-loop-d l = record {
-  left : first_fault (size_tests l.total (map declaration_seen (drop l.d-index l.keys))) ≡ first_fault (size_tests 0 (map declaration_seen l.keys));
+  left : first_fault (size_tests l.total (map declaration_seen (drop l.d-index l.keys)))
+      ≡ first_fault (size_tests 0 (map declaration_seen l.keys));
   small : l.total ≤ MOST_PROGRAM_VARIABLE_BYTES;
 }

@@ -25,10 +25,12 @@ loop-d-preserved c =
       set = λ v. elim c.if-is_global_definition.branch [
         | then-is_global_definition+in_ok-add w ↦
             ap (list_any (bytes_eq v)) w.set-is
-            ∙ name_added v c.loop-d.set ds i d lt at (c.loop-d.invariant.set v) w.bytes.result.now w.add.new.self (w.bytes.ensures.text ∙ w.name.ensures)
+            ∙ name_added v c.loop-d.set ds i d lt at (c.loop-d.invariant.set v) w.bytes.result.now w.add.new.self
+            (w.bytes.ensures.text ∙ w.name.ensures)
             (sym c.is_global_definition.ensures ∙ w.if-is_global_definition.true) (w.in_ok-add.ensures v)
         | else-is_global_definition w ↦
             ap (list_any (bytes_eq v)) w.set-is
-            ∙ name_passed v c.loop-d.set ds i d lt at (c.loop-d.invariant.set v) (sym c.is_global_definition.ensures ∙ w.if-is_global_definition.false)
+            ∙ name_passed v c.loop-d.set ds i d lt at (c.loop-d.invariant.set v)
+            (sym c.is_global_definition.ensures ∙ w.if-is_global_definition.false)
       ];
     }

@@ -23,7 +23,8 @@ loop-i-preserved c =
     let lt : i < length units = omega arith in
     record {
       seen = λ v. c.in-Ok.ensures v
-          ∙ seen_more v units i u c.loop-i.seen c.bytes-name.result.now lt c.index-units-i.is c.bytes-name.ensures.text c.loop-i.invariant.seen;
+          ∙ seen_more v units i u c.loop-i.seen c.bytes-name.result.now lt c.index-units-i.is c.bytes-name.ensures.text
+          c.loop-i.invariant.seen;
       left = place_passes (λ (u : ℕ × Unit). check (is_new_unit units u) (UnitTwice u.0)) units (first_fault (unit_tests units)) i u lt
           (new_at units i u c.loop-i.seen c.bytes-name.result.now c.contains.result c.index-units-i.is c.bytes-name.ensures.text
           c.loop-i.invariant.seen c.contains.ensures

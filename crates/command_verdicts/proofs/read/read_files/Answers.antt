@@ -2,7 +2,7 @@ use Rattle.std.proofs.Common.{◌≡◌, ◌≤◌, ◌+◌, ◌++◌, ◌∷◌
 use Rattle.limits.specs.declared.TheConstants.{MOST_DUMPS_BYTES}
 use Rattle.commands.specs.Files.{dump_bytes, dumps_sum, files}
 use Rattle.commands.specs.Reads.{AreRead, EachRead, IsRead}
-use Rattle.command_verdicts.specs.Contents.{contents_of}
+use Rattle.simulation.specs.Judged as judged
 use Rattle.command_verdicts.proofs.ReadLemmas.{each_more, sum_more}
 use Rattle.command_verdicts.proofs.StopLemmas.{stops_at, past_total}
 use Rattle.command_verdicts.proofs.read.read_files.Goals as goal
@@ -11,7 +11,7 @@ pub returns-in-Err-clause-stopped : goal.returns-in-Err-clause-stopped
 returns-in-Err-clause-stopped g c =
     stops_at (g.S.Store.holds c.args.store.now) (g.S.Store.holds c.loop-i.store) (g.S.Store.faults c.args.store.now)
     (g.S.Store.faults c.loop-i.store) (g.S.Store.faults c.read_file.new.store) (g.S.Store.blamed c.read_file.new.store)
-    (map string_bytes c.args.words.now) (files c.args.command) c.file_at-file.result c.loop-i.i (contents_of c.loop-i.contents.items)
+    (map string_bytes c.args.words.now) (files c.args.command) c.file_at-file.result c.loop-i.i (judged.contents c.loop-i.contents.items)
     c.in-Err.stop c.loop-i.invariant.kept c.loop-i.invariant.quiet c.file_at-file.ensures
     (record {
       each = c.loop-i.invariant.each;
@@ -28,7 +28,7 @@ returns-in-None-clause-stopped g c =
     let past = c.in-None.ensures in
     past_total (g.S.Store.holds c.args.store.now) (g.S.Store.faults c.args.store.now) (g.S.Store.faults c.read_file.new.store)
     (g.S.Store.blamed c.read_file.new.store) (map string_bytes c.args.words.now) (files c.args.command) c.file_at-file.result c.loop-i.i
-    (contents_of c.loop-i.contents.items) c.in-Ok.bytes.items c.file_at-file.ensures
+    (judged.contents c.loop-i.contents.items) c.in-Ok.bytes.items c.file_at-file.ensures
     (record {
       each = c.loop-i.invariant.each;
       dumps = subst (λ n. n ≤ MOST_DUMPS_BYTES) c.loop-i.invariant.sum c.loop-i.invariant.fits;
@@ -54,12 +54,13 @@ loop-i-preserved g c =
     let more = sum_more (g.S.Store.holds c.args.store.now) (map string_bytes c.args.words.now) (files c.args.command) c.loop-i.i
     c.loop-i.contents.items c.file_at-file.result c.in-Ok.bytes c.file_at-file.ensures c.loop-i.invariant.each in
     let whole : c.in-Some.total
-    ≡ dumps_sum (take (c.loop-i.i + 1) (files c.args.command)) (contents_of (c.loop-i.contents.items ++ c.in-Ok.bytes ∷ [])) = omega arith in
+    ≡ dumps_sum (take (c.loop-i.i + 1) (files c.args.command)) (judged.contents (c.loop-i.contents.items ++ c.in-Ok.bytes ∷ [])) =
+    omega arith in
     record {
       kept = c.read_file.ensures.kept ∙ c.loop-i.invariant.kept;
       quiet = c.in-Ok.ensures.quiet ∙ c.loop-i.invariant.quiet;
       each = subst (λ vs. EachRead (g.S.Store.holds c.args.store.now) (map string_bytes c.args.words.now)
-          (take (c.loop-i.i + 1) (files c.args.command)) (contents_of vs)) (sym items) each;
-      sum = subst (λ vs. c.in-Some.total ≡ dumps_sum (take (c.loop-i.i + 1) (files c.args.command)) (contents_of vs)) (sym items) whole;
+          (take (c.loop-i.i + 1) (files c.args.command)) (judged.contents vs)) (sym items) each;
+      sum = subst (λ vs. c.in-Some.total ≡ dumps_sum (take (c.loop-i.i + 1) (files c.args.command)) (judged.contents vs)) (sym items) whole;
       fits = omega arith;
     }

@@ -8,7 +8,13 @@ pub returns-then-a-zeros-clause-kinds : goal.returns-then-a-zeros-clause-kinds
 returns-then-a-zeros-clause-kinds c = λ cs h.
     zeros_stretch c.args.image.now c.args.layout.now cs (segment_seen c.args.segment.now) c.args.here.now c.args.a c.args.end _
     (record {
-      known = record { loadable = c.requires.loadable; segment = c.requires.segment; low = c.requires.low; ends = c.requires.ends; claim = h };
+      known = record {
+        loadable = c.requires.loadable;
+        segment = c.requires.segment;
+        low = c.requires.low;
+        ends = c.requires.ends;
+        claim = h;
+      };
       none = c.requires.unclaimed;
       foreign = c.requires.foreign;
       native = c.requires.native;
@@ -21,7 +27,13 @@ pub returns-then-is_free_nop-clause-kinds : goal.returns-then-is_free_nop-clause
 returns-then-is_free_nop-clause-kinds c = λ cs h.
     padded_byte c.args.image.now c.args.layout.now cs (segment_seen c.args.segment.now) c.args.here.now c.args.a c.args.end
     (record {
-      known = record { loadable = c.requires.loadable; segment = c.requires.segment; low = c.requires.low; ends = c.requires.ends; claim = h };
+      known = record {
+        loadable = c.requires.loadable;
+        segment = c.requires.segment;
+        low = c.requires.low;
+        ends = c.requires.ends;
+        claim = h;
+      };
       none = c.requires.unclaimed;
       foreign = c.requires.foreign;
       native = c.requires.native;
@@ -33,7 +45,13 @@ pub returns-clause-kinds : goal.returns-clause-kinds
 returns-clause-kinds c = λ cs h.
     stray_byte c.args.image.now c.args.layout.now cs (segment_seen c.args.segment.now) c.args.here.now c.args.a c.args.end
     (record {
-      known = record { loadable = c.requires.loadable; segment = c.requires.segment; low = c.requires.low; ends = c.requires.ends; claim = h };
+      known = record {
+        loadable = c.requires.loadable;
+        segment = c.requires.segment;
+        low = c.requires.low;
+        ends = c.requires.ends;
+        claim = h;
+      };
       none = c.requires.unclaimed;
       foreign = c.requires.foreign;
       native = c.requires.native;

@@ -15,7 +15,8 @@ returns-then-is_stray-clause-err c =
 
 pub returns-in-Ok-clause-ok : goal.returns-in-Ok-clause-ok
 returns-in-Ok-clause-ok c =
-    swept_stretch c.args.image.now c.args.layout.now c.args.kept.now c.args.tally.now c.add.new.self c.args.here.now c.here_at.result c.args.a
+    swept_stretch c.args.image.now c.args.layout.now c.args.kept.now c.args.tally.now c.add.new.self c.args.here.now
+    c.here_at.result c.args.a
     c.stretch_from-stretch.result c.requires.swept c.here_at.ensures.holds
     (c.stretch_from-stretch.ensures.kinds (map kept_seen c.args.kept.now) c.here_at.ensures.holds.claim)
     (sym c.is_stray.ensures ∙ c.if-is_stray.false) c.in-Ok.ensures.seen c.in-Ok.ensures.counted

@@ -4,7 +4,8 @@ use Rattle.coverage.proofs.sweep.tally_all.Goals as goal
 
 pub loop-a-init : goal.loop-a-init
 loop-a-init c = record {
-  swept = swept_start c.args.image.now c.args.layout.now c.args.kept.now c.new-tally.result c.nothing_yet-here.result c.new-tally.ensures.seen
+  swept = swept_start c.args.image.now c.args.layout.now c.args.kept.now c.new-tally.result c.nothing_yet-here.result
+      c.new-tally.ensures.seen
       (c.nothing_yet-here.ensures c.args.layout.now c.args.kept.now) c.new-tally.ensures.counted;
   most = omega arith;
   loadable = λ lt. absurd (omega arith);

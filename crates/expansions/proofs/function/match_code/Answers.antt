@@ -29,7 +29,8 @@ match_instruction-requires-clause-here g c =
 pub returns-in-Err-clause-fails : goal.returns-in-Err-clause-fails
 returns-in-Err-clause-fails g c =
     let s = c.args.standing.now in
-    code_hit s.words c.args.layout.now (g.N.NameAddresses.address c.args.names.now) (label_address s.words s.base s.code.now) s.base c.loop-i.i
+    code_hit s.words c.args.layout.now (g.N.NameAddresses.address c.args.names.now)
+    (label_address s.words s.base s.code.now) s.base c.loop-i.i
     c.instr-item.result s.code.now c.in-Err.spot _
     (ap (λ xs. slice_get xs c.loop-i.i) (sym c.code-instr-items.ensures)
     ∙ slice_get-get_or c.code-instr-items.result.now c.loop-i.i c.instr-item.result (search rules)
@@ -44,7 +45,8 @@ loop-i-preserved g c =
     ∙ slice_get-get_or c.code-instr-items.result.now c.loop-i.i c.instr-item.result (search rules)
     ∙ ap (λ x. Some x) (sym c.instr-item.is) in
     record {
-      rest = code_miss s.words c.args.layout.now (g.N.NameAddresses.address c.args.names.now) (label_address s.words s.base s.code.now) s.base
+      rest = code_miss s.words c.args.layout.now (g.N.NameAddresses.address c.args.names.now)
+          (label_address s.words s.base s.code.now) s.base
           c.loop-i.i c.instr-item.result s.code.now _ here (sym c.match_instruction.ensures.first ∙ ap fault_of c.in-Ok.is)
           c.loop-i.invariant.rest;
       claims = λ owner_at.

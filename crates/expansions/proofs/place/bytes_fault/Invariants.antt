@@ -5,7 +5,8 @@ use Rattle.expansions.proofs.place.bytes_fault.Given as goal
 
 abbrev pub invariant-loop-a : goal.invariant-loop-a
 invariant-loop-a l = record {
-  left : first_fault (byte_checks l.segments l.base (from_to l.a l.end)) ≡ first_fault (byte_checks l.segments l.base (from_to l.base l.end));
+  left : first_fault (byte_checks l.segments l.base (from_to l.a l.end))
+      ≡ first_fault (byte_checks l.segments l.base (from_to l.base l.end));
   from : l.base ≤ l.a;
 }
 

@@ -17,7 +17,8 @@ unfolding bound_places
 returns-in_err-binding-clause-places g c =
     let i : Inputs = given c.args.view.now c.args.layout.now (g.P.KeyedProgram.program c.args.program.now) in
     let p = err_from_is_err_and c.from_residual.result c.from_residual.ensures.1 in
-    rw (p.1, p.2) (decides_before (List ℕ) (List ℕ) (bound_pass i) (external_pass i (addresses i)) c.in_err-binding.field-0.0 c.in_err-binding.ensures.places)
+    rw (p.1, p.2) (decides_before (List ℕ) (List ℕ) (bound_pass i) (external_pass i (addresses i)) c.in_err-binding.field-0.0
+    c.in_err-binding.ensures.places)
 
 pub returns-in_err-external_pass-clause-places : goal.returns-in_err-external_pass-clause-places
 unfolding bound_places

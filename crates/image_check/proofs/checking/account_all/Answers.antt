@@ -22,7 +22,8 @@ returns-in_err-overlap_pass-clause-places g c =
     let p = err_from_is_err_and c.from_residual.result c.from_residual.ensures.1 in
     let e = c.in_err-overlap_pass.field-0.0 in
     rw (p.1, p.2) (decides_before (Unit {0}) Account (overlap_pass cs) (stray_pass i.image i.layout cs) e
-    (subst (λ (x : List Claim). Decides {T = Unit {0}} (first_fault (overlap_pass x)) (Err e)) c.requires c.in_err-overlap_pass.ensures.places))
+    (subst (λ (x : List Claim). Decides {T = Unit {0}} (first_fault (overlap_pass x)) (Err e)) c.requires
+    c.in_err-overlap_pass.ensures.places))
 
 pub returns-in_err-account-clause-places : goal.returns-in_err-account-clause-places
 returns-in_err-account-clause-places g c =

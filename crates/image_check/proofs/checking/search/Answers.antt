@@ -34,7 +34,8 @@ returns-in_err-binding-clause-places g c =
     let p = err_from_is_err_and c.from_residual-in_err-binding.result c.from_residual-in_err-binding.ensures.1 in
     let e = c.in_err-binding.field-0.0 in
     rw (p.1, p.2) (decides_passes Account i bs (Err e)
-    (decides_after {T = Account} (entry_pass i.image) (bound_pass i ++ (key_places i bs ++ address_places i bs)) (Err e) c.in_ok-entry_pass.ensures
+    (decides_after {T = Account} (entry_pass i.image) (bound_pass i ++ (key_places i bs ++ address_places i bs)) (Err e)
+    c.in_ok-entry_pass.ensures
     (decides_before (List ℕ) Account (bound_pass i) (key_places i bs ++ address_places i bs) e c.in_err-binding.ensures.places)))
 
 pub returns-in_err-claims-clause-places : goal.returns-in_err-claims-clause-places
@@ -46,7 +47,8 @@ returns-in_err-claims-clause-places g c =
     let p = err_from_is_err_and c.from_residual-in_err-claims.result c.from_residual-in_err-claims.ensures.1 in
     let e = c.in_err-claims.field-0.0 in
     rw (p.1, p.2) (decides_passes Account i bs (Err e)
-    (decides_after {T = Account} (entry_pass i.image) (bound_pass i ++ (key_places i bs ++ address_places i bs)) (Err e) c.in_ok-entry_pass.ensures
+    (decides_after {T = Account} (entry_pass i.image) (bound_pass i ++ (key_places i bs ++ address_places i bs)) (Err e)
+    c.in_ok-entry_pass.ensures
     (decides_after {T = Account} (bound_pass i) (key_places i bs ++ address_places i bs) (Err e) c.in_ok-binding.ensures.places
     (decides_before (List Claim) Account (key_places i bs) (address_places i bs) e
     (moved (λ (v : Image) (cs : List ℕ). Decides {T = List Claim} (first_fault (key_places (given v l program) cs)) (Err e))
@@ -61,12 +63,14 @@ returns-clause-places g c =
     let bs = addresses i in
     let r = c.account_all.result in
     let same = c.addresses.ensures ∙ c.in_ok-binding.ensures.binding in
-    let none = moved (λ (v : Image) (cs : List ℕ). (let none : Option Fault = None in first_fault (key_places (given v l program) cs) ≡ none))
+    let none = moved (λ (v : Image) (cs : List ℕ).
+    (let none : Option Fault = None in first_fault (key_places (given v l program) cs) ≡ none))
     c.in_ok-segments.segments c.args.view.now c.addresses.result.now bs c.in_ok-segments.ensures same c.in_ok-claims.ensures.places in
     let rest = moved (λ (v : Image) (cs : List ℕ). Decides {T = Account} (first_fault (address_places (given v l program) cs)) r)
     c.in_ok-segments.segments c.args.view.now c.addresses.result.now bs c.in_ok-segments.ensures same c.account_all.ensures.places in
     decides_passes Account i bs r
-    (decides_after {T = Account} (entry_pass i.image) (bound_pass i ++ (key_places i bs ++ address_places i bs)) r c.in_ok-entry_pass.ensures
+    (decides_after {T = Account} (entry_pass i.image) (bound_pass i ++ (key_places i bs ++ address_places i bs)) r
+    c.in_ok-entry_pass.ensures
     (decides_after {T = Account} (bound_pass i) (key_places i bs ++ address_places i bs) r c.in_ok-binding.ensures.places
     (decides_after {T = Account} (key_places i bs) (address_places i bs) r none rest)))
 
@@ -75,6 +79,7 @@ returns-clause-account g c =
     let l = c.args.layout.now in
     let program = g.P.KeyedProgram.program c.args.program.now in
     let i : Inputs = given c.args.view.now l program in
-    moved (λ (v : Image) (cs : List ℕ). IfOk c.account_all.result (λ (a : Account). account_seen a ≡ program_account (given v l program) cs))
+    moved (λ (v : Image) (cs : List ℕ).
+    IfOk c.account_all.result (λ (a : Account). account_seen a ≡ program_account (given v l program) cs))
     c.in_ok-segments.segments c.args.view.now c.addresses.result.now (addresses i) c.in_ok-segments.ensures
     (c.addresses.ensures ∙ c.in_ok-binding.ensures.binding) c.account_all.ensures.account

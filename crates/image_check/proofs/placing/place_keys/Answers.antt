@@ -25,7 +25,8 @@ returns-in_err-function_pass-clause-places g c =
     let i : Inputs = given b.segments.now b.layout.now (g.P.KeyedProgram.program b.program.now) in
     let p = err_from_is_err_and c.from_residual-in_err-function_pass.result c.from_residual-in_err-function_pass.ensures.1 in
     let e = c.in_err-function_pass.field-0.0 in
-    rw (p.1, p.2) (decides_after {T = List Claim} (external_pass i bs) (function_pass i bs ++ variable_pass i bs) (Err e) c.in_ok-external_pass.ensures
+    rw (p.1, p.2) (decides_after {T = List Claim} (external_pass i bs) (function_pass i bs ++ variable_pass i bs) (Err e)
+    c.in_ok-external_pass.ensures
     (decides_before (Unit {0}) (List Claim) (function_pass i bs) (variable_pass i bs) e c.in_err-function_pass.ensures.places))
 
 pub returns-in_err-variable_pass-clause-places : goal.returns-in_err-variable_pass-clause-places
@@ -35,7 +36,8 @@ returns-in_err-variable_pass-clause-places g c =
     let i : Inputs = given b.segments.now b.layout.now (g.P.KeyedProgram.program b.program.now) in
     let p = err_from_is_err_and c.from_residual-in_err-variable_pass.result c.from_residual-in_err-variable_pass.ensures.1 in
     let e = c.in_err-variable_pass.field-0.0 in
-    rw (p.1, p.2) (decides_after {T = List Claim} (external_pass i bs) (function_pass i bs ++ variable_pass i bs) (Err e) c.in_ok-external_pass.ensures
+    rw (p.1, p.2) (decides_after {T = List Claim} (external_pass i bs) (function_pass i bs ++ variable_pass i bs) (Err e)
+    c.in_ok-external_pass.ensures
     (decides_after {T = List Claim} (function_pass i bs) (variable_pass i bs) (Err e) c.in_ok-function_pass.ensures.places
     c.in_err-variable_pass.ensures.places))
 

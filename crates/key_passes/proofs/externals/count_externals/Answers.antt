@@ -13,7 +13,8 @@ pub loop-k-preserved : goal.loop-k-preserved
 loop-k-preserved g c = record {
   near = omega (arith, c.external_count-count.ensures.one, c.loop-k.invariant.near);
   counted = count_more declared_externals (keys (g.P.KeyedProgram.program c.args.program.now).units) c.loop-k.k
-      (declared c.key-key.result) c.loop-k.count _ _ c.key-key.ensures.declared c.external_count-count.ensures.count c.loop-k.invariant.counted;
+      (declared c.key-key.result) c.loop-k.count _ _ c.key-key.ensures.declared c.external_count-count.ensures.count
+      c.loop-k.invariant.counted;
 }
 
 pub returns : goal.returns

@@ -18,7 +18,8 @@ loop-k-preserved g c =
     let b = c.args.bound.now in
     let i : Inputs = given b.segments.now b.layout.now (g.P.KeyedProgram.program b.program.now) in
     record {
-      places = key_passes i (external_tests i b.addresses.now) (first_fault (external_pass i b.addresses.now)) c.loop-k.k (declared c.key-key.result) c.key-key.ensures.declared
+      places = key_passes i (external_tests i b.addresses.now) (first_fault (external_pass i b.addresses.now)) c.loop-k.k
+          (declared c.key-key.result) c.key-key.ensures.declared
           c.in_ok-match_key.ensures.places c.loop-k.invariant.places;
       seen = c.in_ok-match_key.ensures.seen;
     }

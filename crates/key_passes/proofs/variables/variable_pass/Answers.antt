@@ -22,8 +22,10 @@ loop-k-preserved g c =
     let d = declared c.key-key.result in
     let here = c.key-key.ensures.declared in
     record {
-      places = key_passes i (variable_tests i bs) (first_fault (variable_pass i bs)) c.loop-k.k d here c.in_ok-match_key.ensures.places c.loop-k.invariant.places;
-      claims = claims_more (key_variables i bs) (keys i.program.units) c.loop-k.k d _ _ _ here c.in_ok-match_key.ensures.claims c.loop-k.invariant.claims;
+      places = key_passes i (variable_tests i bs) (first_fault (variable_pass i bs)) c.loop-k.k d here c.in_ok-match_key.ensures.places
+          c.loop-k.invariant.places;
+      claims = claims_more (key_variables i bs) (keys i.program.units) c.loop-k.k d _ _ _ here c.in_ok-match_key.ensures.claims
+          c.loop-k.invariant.claims;
     }
 
 pub returns-in_err-match_key-clause-places : goal.returns-in_err-match_key-clause-places

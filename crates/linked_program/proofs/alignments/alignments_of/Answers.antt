@@ -21,7 +21,8 @@ loop-d-preserved c =
     ∙ (ap (λ o. unwrap_or o 1) (c.get.ensures ∙ ap (λ q. lookup (is_same q) c.in_ok-numbers.numbers) named)
     ∙ c.in_ok-numbers.ensures.value (scoped_name d)) in
     record {
-      list = made_more (alignment_in ds) c.loop-d.list.items c.push.new.self.items c.args.keys.now c.loop-d.d-index c.d-item.result c.unwrap_or-greatest.result lt
+      list = made_more (alignment_in ds) c.loop-d.list.items c.push.new.self.items c.args.keys.now c.loop-d.d-index c.d-item.result
+          c.unwrap_or-greatest.result lt
           c.d-item.is c.in_ok-push.ensures.items value
           ∙ c.loop-d.invariant.list;
     }

@@ -37,8 +37,10 @@ loop-d-preserved c =
     c.greater.ensures ∙ ap (λ a. max c.unwrap_or-before.result a) c.alignment.ensures in
     let small : item_alignment d.item ≤ 255 = omega (arith, c.alignment.ensures, c.alignment.type_inv) in
     record {
-      value = known_more ds i d d c.loop-d.numbers c.set.new.self c.unwrap_or-before.result c.greater.result lt at c.loop-d.invariant.value known more
+      value = known_more ds i d d c.loop-d.numbers c.set.new.self c.unwrap_or-before.result c.greater.result lt at
+          c.loop-d.invariant.value known more
           (λ q. c.in_ok-set.ensures q ∙ ap (λ r. cond (is_same q r) (Some c.greater.result) (lookup (is_same q) c.loop-d.numbers)) named);
-      range = small_more d c.loop-d.numbers c.set.new.self c.unwrap_or-before.result c.greater.result c.loop-d.invariant.range known more small
+      range = small_more d c.loop-d.numbers c.set.new.self c.unwrap_or-before.result c.greater.result
+          c.loop-d.invariant.range known more small
           (λ q. c.in_ok-set.ensures q ∙ ap (λ r. cond (is_same q r) (Some c.greater.result) (lookup (is_same q) c.loop-d.numbers)) named);
     }

@@ -18,13 +18,16 @@ returns c =
     let ds = map declaration_seen c.args.keys.now in let list = c.loop-k.list.items in
     let le : length ds ≤ c.loop-k.k = omega (arith, seen_length c.args.keys.now) in
     record {
-      items = items_end (λ (d : Declaration). item_externals d.item) (map external_of list) ds c.loop-k.k (flat_map (λ (d : Declaration). item_externals d.item) ds) le c.loop-k.invariant.items;
-      numbers = numbers_end (λ (d : Declaration). is_external d.item) (map external_key list) ds c.loop-k.k (key_numbers is_external ds) le c.loop-k.invariant.numbers;
+      items = items_end (λ (d : Declaration). item_externals d.item) (map external_of list) ds c.loop-k.k
+          (flat_map (λ (d : Declaration). item_externals d.item) ds) le c.loop-k.invariant.items;
+      numbers = numbers_end (λ (d : Declaration). is_external d.item) (map external_key list) ds c.loop-k.k (key_numbers is_external ds) le
+          c.loop-k.invariant.numbers;
     }
 
 pub loop-k-preserved : goal.loop-k-preserved
 loop-k-preserved c =
-    let all = c.args.keys.now in let ds = map declaration_seen all in let k = c.loop-k.k in let d = declaration_seen c.index-keys-k.result in
+    let all = c.args.keys.now in let ds = map declaration_seen all in let k = c.loop-k.k in
+    let d = declaration_seen c.index-keys-k.result in
     let list = c.loop-k.list.items in
     let short : k < length all = omega arith in
     let lt : k < length ds = omega (arith, seen_length all) in
@@ -32,7 +35,8 @@ loop-k-preserved c =
     elim c.match-d.branch [
       | in-External+in_ok-push w ↦
           let row : ExternalKey = record { key = k; external = w.in-External.external } in
-          let grown : c.match-d.list.items ≡ list ++ row ∷ [] = ap (λ (l : Vec ExternalKey Global). l.items) w.list-is ∙ w.in_ok-push.ensures.items in
+          let grown : c.match-d.list.items ≡ list ++ row ∷ [] = ap (λ (l : Vec ExternalKey Global). l.items) w.list-is
+          ∙ w.in_ok-push.ensures.items in
           record {
             items = items_step item_externals is_external ds k d lt at (map external_of list) (map external_of c.match-d.list.items)
                 (ap (map external_of) grown ∙ (map-append external_of list (row ∷ [])
@@ -48,7 +52,8 @@ loop-k-preserved c =
           let gone = no_external c.index-keys-k.result.item w.in_default.not-External in
           record {
             items = items_step item_externals is_external ds k d lt at (map external_of list) (map external_of c.match-d.list.items)
-                (nothing_added (map external_of list) (item_externals d.item) (map external_of c.match-d.list.items) gone.0 (ap (map external_of) same))
+                (nothing_added (map external_of list) (item_externals d.item) (map external_of c.match-d.list.items) gone.0
+                (ap (map external_of) same))
                 ∙ c.loop-k.invariant.items;
             numbers = numbers_step item_externals is_external ds k d lt at (map external_key list) (map external_key c.match-d.list.items)
                 (nothing_added (map external_key list) (cond (is_external d.item) (k ∷ []) []) (map external_key c.match-d.list.items)

@@ -17,13 +17,16 @@ returns c =
     let ds = map declaration_seen c.args.keys.now in let list = c.loop-k.list.items in
     let le : length ds ≤ c.loop-k.k = omega (arith, seen_length c.args.keys.now) in
     record {
-      items = items_end (λ (d : Declaration). item_functions d.item) (map function_of list) ds c.loop-k.k (flat_map (λ (d : Declaration). item_functions d.item) ds) le c.loop-k.invariant.items;
-      numbers = numbers_end (λ (d : Declaration). is_function d.item) (map function_key list) ds c.loop-k.k (key_numbers is_function ds) le c.loop-k.invariant.numbers;
+      items = items_end (λ (d : Declaration). item_functions d.item) (map function_of list) ds c.loop-k.k
+          (flat_map (λ (d : Declaration). item_functions d.item) ds) le c.loop-k.invariant.items;
+      numbers = numbers_end (λ (d : Declaration). is_function d.item) (map function_key list) ds c.loop-k.k (key_numbers is_function ds) le
+          c.loop-k.invariant.numbers;
     }
 
 pub loop-k-preserved : goal.loop-k-preserved
 loop-k-preserved c =
-    let all = c.args.keys.now in let ds = map declaration_seen all in let k = c.loop-k.k in let d = declaration_seen c.index-keys-k.result in
+    let all = c.args.keys.now in let ds = map declaration_seen all in let k = c.loop-k.k in
+    let d = declaration_seen c.index-keys-k.result in
     let list = c.loop-k.list.items in
     let short : k < length all = omega arith in
     let lt : k < length ds = omega (arith, seen_length all) in
@@ -31,7 +34,8 @@ loop-k-preserved c =
     elim c.match-d.branch [
       | in-Function+in_ok-push w ↦
           let row : FunctionKey = record { key = k; function = w.in-Function.function } in
-          let grown : c.match-d.list.items ≡ list ++ row ∷ [] = ap (λ (l : Vec FunctionKey Global). l.items) w.list-is ∙ w.in_ok-push.ensures.items in
+          let grown : c.match-d.list.items ≡ list ++ row ∷ [] = ap (λ (l : Vec FunctionKey Global). l.items) w.list-is
+          ∙ w.in_ok-push.ensures.items in
           record {
             items = items_step item_functions is_function ds k d lt at (map function_of list) (map function_of c.match-d.list.items)
                 (ap (map function_of) grown ∙ (map-append function_of list (row ∷ [])
@@ -47,7 +51,8 @@ loop-k-preserved c =
           let gone = no_function c.index-keys-k.result.item w.in_default.not-Function in
           record {
             items = items_step item_functions is_function ds k d lt at (map function_of list) (map function_of c.match-d.list.items)
-                (nothing_added (map function_of list) (item_functions d.item) (map function_of c.match-d.list.items) gone.0 (ap (map function_of) same))
+                (nothing_added (map function_of list) (item_functions d.item) (map function_of c.match-d.list.items) gone.0
+                (ap (map function_of) same))
                 ∙ c.loop-k.invariant.items;
             numbers = numbers_step item_functions is_function ds k d lt at (map function_key list) (map function_key c.match-d.list.items)
                 (nothing_added (map function_key list) (cond (is_function d.item) (k ∷ []) []) (map function_key c.match-d.list.items)

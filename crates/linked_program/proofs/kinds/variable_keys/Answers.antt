@@ -17,13 +17,16 @@ returns c =
     let ds = map declaration_seen c.args.keys.now in let list = c.loop-k.list.items in
     let le : length ds ≤ c.loop-k.k = omega (arith, seen_length c.args.keys.now) in
     record {
-      items = items_end (λ (d : Declaration). item_variables d.item) (map variable_of list) ds c.loop-k.k (flat_map (λ (d : Declaration). item_variables d.item) ds) le c.loop-k.invariant.items;
-      numbers = numbers_end (λ (d : Declaration). is_variable d.item) (map variable_key list) ds c.loop-k.k (key_numbers is_variable ds) le c.loop-k.invariant.numbers;
+      items = items_end (λ (d : Declaration). item_variables d.item) (map variable_of list) ds c.loop-k.k
+          (flat_map (λ (d : Declaration). item_variables d.item) ds) le c.loop-k.invariant.items;
+      numbers = numbers_end (λ (d : Declaration). is_variable d.item) (map variable_key list) ds c.loop-k.k (key_numbers is_variable ds) le
+          c.loop-k.invariant.numbers;
     }
 
 pub loop-k-preserved : goal.loop-k-preserved
 loop-k-preserved c =
-    let all = c.args.keys.now in let ds = map declaration_seen all in let k = c.loop-k.k in let d = declaration_seen c.index-keys-k.result in
+    let all = c.args.keys.now in let ds = map declaration_seen all in let k = c.loop-k.k in
+    let d = declaration_seen c.index-keys-k.result in
     let list = c.loop-k.list.items in
     let short : k < length all = omega arith in
     let lt : k < length ds = omega (arith, seen_length all) in
@@ -31,7 +34,8 @@ loop-k-preserved c =
     elim c.match-d.branch [
       | in-Variable+in_ok-push w ↦
           let row : VariableKey = record { key = k; variable = w.in-Variable.variable } in
-          let grown : c.match-d.list.items ≡ list ++ row ∷ [] = ap (λ (l : Vec VariableKey Global). l.items) w.list-is ∙ w.in_ok-push.ensures.items in
+          let grown : c.match-d.list.items ≡ list ++ row ∷ [] = ap (λ (l : Vec VariableKey Global). l.items) w.list-is
+          ∙ w.in_ok-push.ensures.items in
           record {
             items = items_step item_variables is_variable ds k d lt at (map variable_of list) (map variable_of c.match-d.list.items)
                 (ap (map variable_of) grown ∙ (map-append variable_of list (row ∷ [])
@@ -47,7 +51,8 @@ loop-k-preserved c =
           let gone = no_variable c.index-keys-k.result.item w.in_default.not-Variable in
           record {
             items = items_step item_variables is_variable ds k d lt at (map variable_of list) (map variable_of c.match-d.list.items)
-                (nothing_added (map variable_of list) (item_variables d.item) (map variable_of c.match-d.list.items) gone.0 (ap (map variable_of) same))
+                (nothing_added (map variable_of list) (item_variables d.item) (map variable_of c.match-d.list.items) gone.0
+                (ap (map variable_of) same))
                 ∙ c.loop-k.invariant.items;
             numbers = numbers_step item_variables is_variable ds k d lt at (map variable_key list) (map variable_key c.match-d.list.items)
                 (nothing_added (map variable_key list) (cond (is_variable d.item) (k ∷ []) []) (map variable_key c.match-d.list.items)

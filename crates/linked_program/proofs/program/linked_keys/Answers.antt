@@ -40,7 +40,8 @@ pub returns-in-Ok-sizes_fit-clause-answer : goal.returns-in-Ok-sizes_fit-clause-
 returns-in-Ok-sizes_fit-clause-answer c =
     let units = c.args.units.now in let entry = c.args.entry.now in
     let kept = ap (map declaration_seen) c.deref-2.ensures.value ∙ c.in-Ok.ensures in
-    let list = ap (map declaration_seen) c.deref-3.ensures.value ∙ (c.in-Ok-keys_of.ensures.list ∙ keys_are units (map declaration_seen c.deref-2.result.now) kept) in
+    let list = ap (map declaration_seen) c.deref-3.ensures.value
+    ∙ (c.in-Ok-keys_of.ensures.list ∙ keys_are units (map declaration_seen c.deref-2.result.now) kept) in
     ap all_pass (sym (tests_are units entry))
     ∙ (past (all_name_tests units) (entry_test units entry ∷ [] ++ size_tests 0 (keys units)) c.in-Ok-names_link.ensures
     ∙ (past (entry_test units entry ∷ []) (size_tests 0 (keys units)) c.in-Ok-entry_is_function.ensures
@@ -60,7 +61,8 @@ pub returns-clause-answer : goal.returns-clause-answer
 returns-clause-answer c =
     let units = c.args.units.now in let entry = c.args.entry.now in let o = told c.in-Err-sizes_fit.e in
     let kept = ap (map declaration_seen) c.deref-2.ensures.value ∙ c.in-Ok.ensures in
-    let list = ap (map declaration_seen) c.deref-3.ensures.value ∙ (c.in-Ok-keys_of.ensures.list ∙ keys_are units (map declaration_seen c.deref-2.result.now) kept) in
+    let list = ap (map declaration_seen) c.deref-3.ensures.value
+    ∙ (c.in-Ok-keys_of.ensures.list ∙ keys_are units (map declaration_seen c.deref-2.result.now) kept) in
     subst (λ tests. IsTold {T = ⊤} o (all_pass tests)) (tests_are units entry)
     (told_past o (all_name_tests units) (entry_test units entry ∷ [] ++ size_tests 0 (keys units)) c.in-Ok-names_link.ensures
     (told_past o (entry_test units entry ∷ []) (size_tests 0 (keys units)) c.in-Ok-entry_is_function.ensures

@@ -25,7 +25,8 @@ returns-in-Err-definitions_join c =
 pub returns-in-Err-names_are_known : goal.returns-in-Err-names_are_known
 returns-in-Err-names_are_known c =
     let units = c.args.units.now in let o = told c.in-Err-names_are_known.e in
-    let joined = sym (ap all_pass (definitions_are units (map declaration_seen c.args.all.now) c.requires.all)) ∙ c.in-Ok-definitions_join.ensures in
+    let joined = sym (ap all_pass (definitions_are units (map declaration_seen c.args.all.now) c.requires.all))
+    ∙ c.in-Ok-definitions_join.ensures in
     told_past o (unit_tests units) (definition_tests units ++ (name_tests units ++ sig_tests units)) c.in-Ok.ensures
     (told_past o (definition_tests units) (name_tests units ++ sig_tests units) joined
     (told_first o (name_tests units) (sig_tests units) c.in-Err-names_are_known.ensures))
@@ -33,10 +34,13 @@ returns-in-Err-names_are_known c =
 pub returns : goal.returns
 returns c =
     let units = c.args.units.now in
-    let joined = sym (ap all_pass (definitions_are units (map declaration_seen c.args.all.now) c.requires.all)) ∙ c.in-Ok-definitions_join.ensures in
-    let left : all_pass (unit_tests units ++ (definition_tests units ++ (name_tests units ++ sig_tests units))) ≡ all_pass (sig_tests units) =
+    let joined = sym (ap all_pass (definitions_are units (map declaration_seen c.args.all.now) c.requires.all))
+    ∙ c.in-Ok-definitions_join.ensures in
+    let left : all_pass (unit_tests units ++ (definition_tests units ++ (name_tests units ++ sig_tests units)))
+    ≡ all_pass (sig_tests units) =
     past (unit_tests units) (definition_tests units ++ (name_tests units ++ sig_tests units)) c.in-Ok.ensures
-    ∙ (past (definition_tests units) (name_tests units ++ sig_tests units) joined ∙ past (name_tests units) (sig_tests units) c.in-Ok-names_are_known.ensures) in
+    ∙ (past (definition_tests units) (name_tests units ++ sig_tests units) joined
+    ∙ past (name_tests units) (sig_tests units) c.in-Ok-names_are_known.ensures) in
     subst (λ (due : Result ⊤ LinkError). Answers told c.signatures_agree.result due)
     (ap all_pass (signatures_are units (map declaration_seen c.args.standing.now) c.requires.standing) ∙ sym left)
     c.signatures_agree.ensures

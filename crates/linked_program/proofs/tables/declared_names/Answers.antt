@@ -29,9 +29,11 @@ loop-d-preserved c =
         | then-is_external+in_ok-set w ↦
             ap (λ t. is_some (lookup (is_same q) t)) w.names-is
             ∙ external_set q c.loop-d.names ds i d lt at (c.loop-d.invariant.names q) w.set.new.self (w.from.result, w.bytes.result.now) 0
-            (λ j. (w.from.ensures j, (w.bytes.ensures.text ∙ w.name.ensures) j)) (sym c.is_external.ensures ∙ w.if-is_external.true) (w.in_ok-set.ensures q)
+            (λ j. (w.from.ensures j, (w.bytes.ensures.text ∙ w.name.ensures) j))
+            (sym c.is_external.ensures ∙ w.if-is_external.true) (w.in_ok-set.ensures q)
         | else-is_external w ↦
             ap (λ t. is_some (lookup (is_same q) t)) w.names-is
-            ∙ external_passed q c.loop-d.names ds i d lt at (c.loop-d.invariant.names q) (sym c.is_external.ensures ∙ w.if-is_external.false)
+            ∙ external_passed q c.loop-d.names ds i d lt at (c.loop-d.invariant.names q)
+            (sym c.is_external.ensures ∙ w.if-is_external.false)
       ];
     }

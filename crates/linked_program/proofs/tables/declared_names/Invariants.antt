@@ -9,5 +9,6 @@ use Rattle.linked_program.proofs.tables.declared_names.Given as goal
 
 abbrev pub invariant-loop-d : goal.invariant-loop-d
 invariant-loop-d l = record {
-  names : (q : ℕ × List ℕ) → is_some (lookup (is_same q) l.names) ≡ list_any (is_external_of q) (take l.d-index (map declaration_seen l.all));
+  names : (q : ℕ × List ℕ)
+      → is_some (lookup (is_same q) l.names) ≡ list_any (is_external_of q) (take l.d-index (map declaration_seen l.all));
 }

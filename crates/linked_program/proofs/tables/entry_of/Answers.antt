@@ -6,10 +6,12 @@ use Rattle.linked_program.proofs.tables.entry_of.Goals as goal
 
 pub returns-then-is_entry : goal.returns-then-is_entry
 returns-then-is_entry c =
-    let all = c.args.keys.now in let ds = map declaration_seen all in let k = c.loop-k.k in let d = declaration_seen c.index-keys-k.result in
+    let all = c.args.keys.now in let ds = map declaration_seen all in let k = c.loop-k.k in
+    let d = declaration_seen c.index-keys-k.result in
     let short : k < length all = omega arith in
     let lt : k < length ds = omega (arith, seen_length all) in
-    place_found (is_entry_of c.args.entry.now) ds k d lt (seen_at all k c.index-keys-k.result short c.index-keys-k.is) c.loop-k.invariant.place
+    place_found (is_entry_of c.args.entry.now) ds k d lt (seen_at all k c.index-keys-k.result short c.index-keys-k.is)
+    c.loop-k.invariant.place
     (sym c.is_entry.ensures ∙ c.if-is_entry.true)
 
 pub returns : goal.returns
@@ -20,10 +22,12 @@ returns c =
 
 pub loop-k-preserved : goal.loop-k-preserved
 loop-k-preserved c =
-    let all = c.args.keys.now in let ds = map declaration_seen all in let k = c.loop-k.k in let d = declaration_seen c.index-keys-k.result in
+    let all = c.args.keys.now in let ds = map declaration_seen all in let k = c.loop-k.k in
+    let d = declaration_seen c.index-keys-k.result in
     let short : k < length all = omega arith in
     let lt : k < length ds = omega (arith, seen_length all) in
     record {
-      place = place_passed (is_entry_of c.args.entry.now) ds k d lt (seen_at all k c.index-keys-k.result short c.index-keys-k.is) c.loop-k.invariant.place
+      place = place_passed (is_entry_of c.args.entry.now) ds k d lt (seen_at all k c.index-keys-k.result short c.index-keys-k.is)
+          c.loop-k.invariant.place
           (sym c.is_entry.ensures ∙ c.if-is_entry.false);
     }

@@ -1,7 +1,7 @@
 use Rattle.std.proofs.Common.{Ok, sym, ap, ◌∙◌}
 use Rattle.coverage.specs.Accounts.{account_seen}
 use Rattle.simulation.specs.Judged.{contents}
-use Rattle.simulation.proofs.Refusals.{by_layout, by_image, by_units, all_yes, all_no}
+use Rattle.simulation.proofs.Refusals.{by_layout, by_image, by_units, all_yes, all_faithful, all_no}
 use Rattle.simulation.proofs.judge.judge.Goals as goal
 
 pub returns-in-Err-clause-error : goal.returns-in-Err-clause-error
@@ -29,3 +29,9 @@ returns-clause-error c =
     all_no c.args.layout.now c.args.image.now (contents c.args.units.now)
     c.in-Ok.layout c.in-Ok-read_image.view c.deref.result.now c.judge_units.result c.in-Ok.ensures c.in-Ok-read_image.ensures
     (c.in-Ok-read_units.ensures.read ∙ ap Ok (sym c.deref.ensures.value)) c.judge_units.ensures.error
+
+pub returns-clause-faithful : goal.returns-clause-faithful
+returns-clause-faithful c =
+    all_faithful c.args.layout.now c.args.image.now (contents c.args.units.now)
+    c.in-Ok.layout c.in-Ok-read_image.view c.deref.result.now c.judge_units.result c.in-Ok.ensures c.in-Ok-read_image.ensures
+    (c.in-Ok-read_units.ensures.read ∙ ap Ok (sym c.deref.ensures.value)) c.judge_units.ensures.faithful

@@ -22,4 +22,5 @@ returns-else-block-self c =
     let found : total_from b s.machine.live ≡ Some c.in-Some.cells = cc in
     let P : Cpu → Type 0 = λ x. Some (homes.Frame m) ≡ home x.variables b x.state.live in
     subst P c.self.view_is
-    (home_frame s.variables s.base b c.in-Some.cells m s.machine.live c.self.invariant.stack found (omega arith) (omega (arith, c.saturating_sub.ensures)))
+    (home_frame s.variables s.base b c.in-Some.cells m s.machine.live c.self.invariant.stack found (omega arith)
+    (omega (arith, c.saturating_sub.ensures)))

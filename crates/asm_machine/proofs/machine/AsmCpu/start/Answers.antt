@@ -10,7 +10,8 @@ alloc_block-requires g c = omega (arith, c.in_ok-blocks.ensures.few)
 
 pub invariant_of-result : goal.invariant_of-result
 invariant_of-result g c =
-    first_counted c.in_ok-blocks.blocks c.alloc_block.new.self c.new.result c.made-variables.result c.cells-base.result c.made-variables.ensures.value
+    first_counted c.in_ok-blocks.blocks c.alloc_block.new.self c.new.result c.made-variables.result c.cells-base.result
+    c.made-variables.ensures.value
     c.in_ok-blocks.ensures.made.below c.in_ok-blocks.ensures.few c.in_ok-root.ensures.made.1 c.cells-base.ensures
     (ap (λ (s : State). s.live) c.new.ensures) (ap (λ (s : State). s.next) c.new.ensures)
 

@@ -16,5 +16,6 @@ invariant_of-self-2 c =
     let small : n < 4000000000 = omega (arith, c.requires, next) in (
       subst (λ (l : List Live). AreBlocks l (n + 1)) (sym e) (pushed_blocks items k n c.self.invariant.0 number),
       rw c.from.ensures (subst (λ (l : List Live). HasCells l (n + 1) (c.self.inside.cells + c.args.size)) (sym e)
-          (pushed_empty items k n c.self.inside.cells c.args.size c.args.writable c.self.invariant.1 c.in_ok-k.ensures c.ranges.size.fits small)),
+          (pushed_empty items k n c.self.inside.cells c.args.size c.args.writable c.self.invariant.1 c.in_ok-k.ensures
+          c.ranges.size.fits small)),
     )

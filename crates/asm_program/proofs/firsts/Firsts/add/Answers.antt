@@ -15,7 +15,8 @@ returns-in_ok-insert c = λ v.
     ∙ (ap (λ firsts. cond (bytes_eq v c.bytes-name.result.now) (Some d) (lookup (bytes_eq v) firsts)) c.self.view_is
     ∙ (ap (λ n. cond (bytes_eq v n) (Some d) (lookup (bytes_eq v) c.args.self.now)) text
     ∙ insert_new v (name_of d) d c.args.self.now
-    (found_is c.bytes-name.result.now (name_of d) c.self.inside.kept.entries c.args.self.now c.contains_key.result c.contains_key.ensures c.self.view_is text
+    (found_is c.bytes-name.result.now (name_of d) c.self.inside.kept.entries c.args.self.now c.contains_key.result
+    c.contains_key.ensures c.self.view_is text
     ∙ c.if-not-contains_key.true))))
 
 pub returns-else-not-contains_key : goal.returns-else-not-contains_key
@@ -23,5 +24,6 @@ returns-else-not-contains_key c = λ v.
     let d = declaration_seen c.args.d.now in
     let text : c.bytes-name.result.now ≡ name_of d = c.bytes-name.ensures.text ∙ c.name.ensures in
     keep_old v (name_of d) d c.args.self.now
-    (found_is c.bytes-name.result.now (name_of d) c.self.inside.kept.entries c.args.self.now c.contains_key.result c.contains_key.ensures c.self.view_is text
+    (found_is c.bytes-name.result.now (name_of d) c.self.inside.kept.entries c.args.self.now c.contains_key.result
+    c.contains_key.ensures c.self.view_is text
     ∙ c.if-not-contains_key.false)

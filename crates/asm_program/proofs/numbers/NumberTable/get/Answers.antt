@@ -18,7 +18,8 @@ returns-in-Ok c =
     let lt : i < length rows = subst (λ (l : List Row). i < length l) value c.in-Ok.ensures.bound in
     let found = c.in-Ok.ensures.position (row_order q)
     (always_returns_same _ _ _ (λ a r f' h. let e : r ≡ row_order q a.0.now = search rules in (e, search rules))) in
-    let equal : row_order q (get_or rows i row) ≡ Equal = subst (λ (l : List Row). row_order q (get_or l i row) ≡ Equal) value (found row) in
+    let equal : row_order q (get_or rows i row) ≡ Equal =
+    subst (λ (l : List Row). row_order q (get_or l i row) ≡ Equal) value (found row) in
     sym (ap (lookup (is_same q)) (sym c.self.view_is)
     ∙ (row_hit rows q i row c.self.invariant lt equal ∙ ap (λ (r : Row). Some r.number) (sym c.index.ensures)))
 

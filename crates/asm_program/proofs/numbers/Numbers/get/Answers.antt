@@ -7,4 +7,5 @@ use Rattle.asm_program.proofs.numbers.Numbers.get.Goals as goal
 pub returns : goal.returns
 returns c =
     c.copied.ensures ∙ (c.get.ensures.value
-    ∙ (get_is (c.args.scope, c.args.name.now) c.self.inside.kept.entries ∙ ap (lookup (is_same (c.args.scope, c.args.name.now))) c.self.view_is))
+    ∙ (get_is (c.args.scope, c.args.name.now) c.self.inside.kept.entries
+    ∙ ap (lookup (is_same (c.args.scope, c.args.name.now))) c.self.view_is))

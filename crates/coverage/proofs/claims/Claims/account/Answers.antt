@@ -8,7 +8,8 @@ account_of-requires-clause-rise c = rise_from c.kept.result.now c.args.self.now 
 
 pub returns-clause-account : goal.returns-clause-account
 returns-clause-account c = λ cs e apart.
-    account_added c.args.image.now c.args.layout.now cs (map kept_seen c.kept.result.now) c.account_of.result (c.kept.ensures.seen ∙ e) apart
+    account_added c.args.image.now c.args.layout.now cs (map kept_seen c.kept.result.now) c.account_of.result
+    (c.kept.ensures.seen ∙ e) apart
     c.account_of.ensures.account
 
 pub returns-clause-covered : goal.returns-clause-covered

@@ -16,5 +16,6 @@ pub returns : goal.returns
 returns c =
     let o = opened c.self.inside c.args.self.now c.self.view_is c.self.invariant in
     let units = c.args.self.now.units in let table = c.self.inside.tables.externals in
-    kept_read external_of table.items (externals units) c.args.x c.index.result.now (externals_are units (map external_of table.items) o.tables.externals)
+    kept_read external_of table.items (externals units) c.args.x c.index.result.now
+    (externals_are units (map external_of table.items) o.tables.externals)
     c.requires c.index.ensures

@@ -16,5 +16,6 @@ pub returns : goal.returns
 returns c =
     let o = opened c.self.inside c.args.self.now c.self.view_is c.self.invariant in
     let units = c.args.self.now.units in let table = c.self.inside.tables.functions in
-    kept_read function_of table.items (functions units) c.args.f c.index.result.now (functions_are units (map function_of table.items) o.tables.functions)
+    kept_read function_of table.items (functions units) c.args.f c.index.result.now
+    (functions_are units (map function_of table.items) o.tables.functions)
     c.requires c.index.ensures

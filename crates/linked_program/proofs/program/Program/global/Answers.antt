@@ -19,8 +19,10 @@ returns-in-Some c =
     let row = c.index.result.now in let d = declaration_seen row in let t = unit_declares units u n in
     let place : Some k ≡ position (is_of (0, n)) (keys units) = sym c.in-Some.is ∙ (c.get.ensures ∙ o.names (0, n)) in
     let found = position-Some (is_of (0, n)) (keys units) k d (sym place) in
-    let at : slice_get (keys units) k ≡ Some d = kept_read declaration_seen c.self.inside.list.items (keys units) k row o.list found.0 c.index.ensures in
-    let named : is_global_named n d ≡ true = global_is n d ∙ (ap (is_of (0, n)) (sym (get_or_from_slice_get (keys units) k d d at)) ∙ found.1) in
+    let at : slice_get (keys units) k ≡ Some d = kept_read declaration_seen c.self.inside.list.items (keys units) k row o.list
+    found.0 c.index.ensures in
+    let named : is_global_named n d ≡ true =
+    global_is n d ∙ (ap (is_of (0, n)) (sym (get_or_from_slice_get (keys units) k d d at)) ∙ found.1) in
     let defined = definition_is units n k d at named in
     let value : (not (is_external d.item) || t) ≡ c.if-not-is_external.value =
     elim c.if-not-is_external.branch [
@@ -40,8 +42,10 @@ returns-in_default c =
     let row = c.index.result.now in let d = declaration_seen row in let t = unit_declares units u n in
     let place : Some k ≡ position (is_of (0, n)) (keys units) = sym c.in-Some.is ∙ (c.get.ensures ∙ o.names (0, n)) in
     let found = position-Some (is_of (0, n)) (keys units) k d (sym place) in
-    let at : slice_get (keys units) k ≡ Some d = kept_read declaration_seen c.self.inside.list.items (keys units) k row o.list found.0 c.index.ensures in
-    let named : is_global_named n d ≡ true = global_is n d ∙ (ap (is_of (0, n)) (sym (get_or_from_slice_get (keys units) k d d at)) ∙ found.1) in
+    let at : slice_get (keys units) k ≡ Some d = kept_read declaration_seen c.self.inside.list.items (keys units) k row o.list
+    found.0 c.index.ensures in
+    let named : is_global_named n d ≡ true =
+    global_is n d ∙ (ap (is_of (0, n)) (sym (get_or_from_slice_get (keys units) k d d at)) ∙ found.1) in
     let defined = definition_is units n k d at named in
     let value : (not (is_external d.item) || t) ≡ c.if-not-is_external.value =
     elim c.if-not-is_external.branch [

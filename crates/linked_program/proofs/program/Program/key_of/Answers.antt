@@ -3,8 +3,10 @@ use Rattle.link_model.specs.Program.{keys}
 use Rattle.linked_program.proofs.Opened.{opened}
 use Rattle.link_model.specs.Program.{is_external}
 use Rattle.link_model.specs.Numbers.{functions, variables, externals, is_function, is_variable, key_of}
-use Rattle.linked_program.specs.Kinds.{function_of, function_key, variable_of, variable_key, external_of, external_key, key_numbers, IsNumber}
-use Rattle.linked_program.proofs.ListReads.{kept_length, kept_read, functions_are, variables_are, externals_are, number_below, function_number, variable_number, external_number}
+use Rattle.linked_program.specs.Kinds.{function_of, function_key, variable_of, variable_key, external_of, external_key, key_numbers}
+use Rattle.linked_program.specs.Kinds.{IsNumber}
+use Rattle.linked_program.proofs.ListReads.{kept_length, kept_read, functions_are, variables_are, externals_are, number_below}
+use Rattle.linked_program.proofs.ListReads.{function_number, variable_number, external_number}
 use Rattle.linked_program.proofs.program.Program.key_of.Goals as goal
 
 pub index-requires : goal.index-requires
@@ -22,7 +24,13 @@ returns-in-Function-clause-key c =
     let all = functions_are units (map function_of items) o.tables.functions in
     let below = subst (IsNumber units) c.in-Function.is c.requires in
     let lt : c.in-Function.n < length (key_numbers is_function (keys units)) =
-    omega (arith, kept_length function_of items (functions units) all, kept_length function_key items (key_numbers is_function (keys units)) o.tables.function_keys, below) in
+    omega (
+      arith,
+      kept_length function_of items (functions units) all,
+      kept_length function_key items
+          (key_numbers is_function (keys units)) o.tables.function_keys,
+      below,
+    ) in
     ap (key_of units) c.in-Function.is
     ∙ function_number units c.in-Function.n row.key
     (kept_read function_key items (key_numbers is_function (keys units)) c.in-Function.n row o.tables.function_keys lt c.index.ensures)
@@ -34,7 +42,13 @@ returns-in-Function-clause-range c =
     let all = functions_are units (map function_of items) o.tables.functions in
     let below = subst (IsNumber units) c.in-Function.is c.requires in
     let lt : c.in-Function.n < length (key_numbers is_function (keys units)) =
-    omega (arith, kept_length function_of items (functions units) all, kept_length function_key items (key_numbers is_function (keys units)) o.tables.function_keys, below) in
+    omega (
+      arith,
+      kept_length function_of items (functions units) all,
+      kept_length function_key items
+          (key_numbers is_function (keys units)) o.tables.function_keys,
+      below,
+    ) in
     number_below is_function (keys units) c.in-Function.n row.key
     (kept_read function_key items (key_numbers is_function (keys units)) c.in-Function.n row o.tables.function_keys lt c.index.ensures)
 
@@ -53,10 +67,17 @@ returns-in-Variable-clause-key c =
     let all = variables_are units (map variable_of items) o.tables.variables in
     let below = subst (IsNumber units) c.in-Variable.is c.requires in
     let lt : c.in-Variable.n < length (key_numbers is_variable (keys units)) =
-    omega (arith, kept_length variable_of items (variables units) all, kept_length variable_key items (key_numbers is_variable (keys units)) o.tables.variable_keys, below) in
+    omega (
+      arith,
+      kept_length variable_of items (variables units) all,
+      kept_length variable_key items
+          (key_numbers is_variable (keys units)) o.tables.variable_keys,
+      below,
+    ) in
     ap (key_of units) c.in-Variable.is
     ∙ variable_number units c.in-Variable.n row.key
-    (kept_read variable_key items (key_numbers is_variable (keys units)) c.in-Variable.n row o.tables.variable_keys lt c.index-in-Variable.ensures)
+    (kept_read variable_key items (key_numbers is_variable (keys units)) c.in-Variable.n row o.tables.variable_keys lt
+    c.index-in-Variable.ensures)
 
 pub returns-in-Variable-clause-range : goal.returns-in-Variable-clause-range
 returns-in-Variable-clause-range c =
@@ -65,9 +86,16 @@ returns-in-Variable-clause-range c =
     let all = variables_are units (map variable_of items) o.tables.variables in
     let below = subst (IsNumber units) c.in-Variable.is c.requires in
     let lt : c.in-Variable.n < length (key_numbers is_variable (keys units)) =
-    omega (arith, kept_length variable_of items (variables units) all, kept_length variable_key items (key_numbers is_variable (keys units)) o.tables.variable_keys, below) in
+    omega (
+      arith,
+      kept_length variable_of items (variables units) all,
+      kept_length variable_key items
+          (key_numbers is_variable (keys units)) o.tables.variable_keys,
+      below,
+    ) in
     number_below is_variable (keys units) c.in-Variable.n row.key
-    (kept_read variable_key items (key_numbers is_variable (keys units)) c.in-Variable.n row o.tables.variable_keys lt c.index-in-Variable.ensures)
+    (kept_read variable_key items (key_numbers is_variable (keys units)) c.in-Variable.n row o.tables.variable_keys lt
+    c.index-in-Variable.ensures)
 
 pub index-requires-in-External : goal.index-requires-in-External
 index-requires-in-External c =
@@ -84,10 +112,17 @@ returns-in-External-clause-key c =
     let all = externals_are units (map external_of items) o.tables.externals in
     let below = subst (IsNumber units) c.in-External.is c.requires in
     let lt : c.in-External.n < length (key_numbers is_external (keys units)) =
-    omega (arith, kept_length external_of items (externals units) all, kept_length external_key items (key_numbers is_external (keys units)) o.tables.external_keys, below) in
+    omega (
+      arith,
+      kept_length external_of items (externals units) all,
+      kept_length external_key items
+          (key_numbers is_external (keys units)) o.tables.external_keys,
+      below,
+    ) in
     ap (key_of units) c.in-External.is
     ∙ external_number units c.in-External.n row.key
-    (kept_read external_key items (key_numbers is_external (keys units)) c.in-External.n row o.tables.external_keys lt c.index-in-External.ensures)
+    (kept_read external_key items (key_numbers is_external (keys units)) c.in-External.n row o.tables.external_keys lt
+    c.index-in-External.ensures)
 
 pub returns-in-External-clause-range : goal.returns-in-External-clause-range
 returns-in-External-clause-range c =
@@ -96,6 +131,13 @@ returns-in-External-clause-range c =
     let all = externals_are units (map external_of items) o.tables.externals in
     let below = subst (IsNumber units) c.in-External.is c.requires in
     let lt : c.in-External.n < length (key_numbers is_external (keys units)) =
-    omega (arith, kept_length external_of items (externals units) all, kept_length external_key items (key_numbers is_external (keys units)) o.tables.external_keys, below) in
+    omega (
+      arith,
+      kept_length external_of items (externals units) all,
+      kept_length external_key items
+          (key_numbers is_external (keys units)) o.tables.external_keys,
+      below,
+    ) in
     number_below is_external (keys units) c.in-External.n row.key
-    (kept_read external_key items (key_numbers is_external (keys units)) c.in-External.n row o.tables.external_keys lt c.index-in-External.ensures)
+    (kept_read external_key items (key_numbers is_external (keys units)) c.in-External.n row o.tables.external_keys lt
+    c.index-in-External.ensures)

@@ -58,5 +58,6 @@ invariant_of-result c =
           (sym c.in-Some.is ∙ (c.entry_of.ensures ∙ ap (position (is_entry_of c.args.entry.now)) first)));
       names = λ q. ap (lookup (is_same q)) c.in_ok-numbers.ensures ∙ c.requires.found.numbers q;
       tables = subst (λ (ks : List Declaration). AreTables (declarations units) ks t) list
-          (subst (λ (ds : List Declaration). AreTables ds (map declaration_seen c.deref-2.result.now) t) c.requires.all c.in_ok-tables.ensures);
+          (subst (λ (ds : List Declaration). AreTables ds (map declaration_seen c.deref-2.result.now) t) c.requires.all
+          c.in_ok-tables.ensures);
     }

@@ -16,5 +16,6 @@ pub returns : goal.returns
 returns c =
     let o = opened c.self.inside c.args.self.now c.self.view_is c.self.invariant in
     let units = c.args.self.now.units in let table = c.self.inside.tables.variables in
-    kept_read variable_of table.items (variables units) c.args.v c.index.result.now (variables_are units (map variable_of table.items) o.tables.variables)
+    kept_read variable_of table.items (variables units) c.args.v c.index.result.now
+    (variables_are units (map variable_of table.items) o.tables.variables)
     c.requires c.index.ensures

@@ -1,6 +1,7 @@
 use Rattle.std.proofs.Common.{◌≡◌, ◌+◌, ◌-◌, ◌/◌, arith, ap, sym, ◌∙◌}
 use Rattle.std.specs.Ordering.{ordering_index}
-use Rattle.symbol_index.proofs.Ranks.{rank, ranks_rise, ranks_most, narrow_less, narrow_equal, narrow_greater, spend, found_there, found_nowhere, nobody_named}
+use Rattle.symbol_index.proofs.Ranks.{rank, ranks_rise, ranks_most, narrow_less, narrow_equal, narrow_greater, spend, found_there}
+use Rattle.symbol_index.proofs.Ranks.{found_nowhere, nobody_named}
 use Rattle.symbol_index.proofs.index.SymIndex.find.Goals as goal
 
 pub loop-low-preserved-in-Less : goal.loop-low-preserved-in-Less

@@ -1,0 +1,4 @@
+pub mod FileLaws
+pub mod Sums
+pub mod Alikes
+pub mod Plains

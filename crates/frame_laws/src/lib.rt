@@ -1,0 +1,4 @@
+//! Steps that make and free frames: the image follows each of them.
+#![tactic(auto)]
+
+pub mod laws;

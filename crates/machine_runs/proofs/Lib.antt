@@ -1,0 +1,9 @@
+pub mod Least
+pub mod FlatRunning
+pub mod AsmRunning
+pub mod Outsides
+pub mod Reading
+pub mod Totals
+pub mod FlatAdvances
+pub mod AsmAdvances
+pub mod Keys

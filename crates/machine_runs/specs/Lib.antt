@@ -1,0 +1,5 @@
+pub mod Sums
+pub mod Traces
+pub mod Arguments
+pub mod Steps
+pub mod Outside

@@ -1,0 +1,684 @@
+//! The commands over files in memory: what they print, and their statuses.
+
+use crate::answer::valex;
+use crate::code_rows::code_programs;
+use crate::data_rows::data_programs;
+use crate::refused_rows::{images, layouts, units};
+use crate::upgrade_rows::upgrades;
+use outside::mem_sink::MemSink;
+use outside::mem_store::MemStore;
+use std::alloc::{AllocError, Global};
+use std::process::Abort;
+use std::test::Fail;
+use test_images::lines::image_of;
+
+const CHECK: &str = "check layout.json image.elf a.json";
+
+const UNIT: &str =
+    r#"{"valex":"unit","version":1,"unit":"a.c","functions":[{"name":"main","static":false,"code":[["addi",3,0,7],["blr"]]}],"variables":[],"externals":[]}"#;
+
+/// Its code is at 84 of the file.
+const IMAGE: &str =
+    "entry 10010000\nsegment 10010000 5 8 38600007 4e800020\nsymbol 10010000 12 fff1 main";
+
+const REPORT: &str =
+    "yes\nfunctions 1 bytes 8\ntables 0 bytes 0\nvariables 0 bytes 0\nexternals 0\npadding 0\nforeign 0\nloaded 8\n10010000 10010008 function a.c main\n";
+
+const USAGE: &str =
+    "usage: valex check LAYOUT IMAGE UNIT...\n       valex run LAYOUT IMAGE REPLIES STEPS UNIT...\n       valex show IMAGE ADDRESS COUNT\n       valex make SEED COUNT\n       valex upgrade UNIT\n";
+
+fn layout_of(alloc: Global, parts: &[&str; 3]) -> Result<String, AllocError> {
+    let [areas, foreign, pins] = *parts;
+    let front =
+        r#""entry":"main","stop":"0x10000000","stack":["0x20000000","0x20010000"],"r13":"0x10038000","r2":"0x10048000","areas":[{"name":"text","range":["0x10010000","0x10011000"],"kind":"code"}"#;
+    format!(in alloc;
+        "{{\"valex\":\"layout\",\"version\":1,{front}{areas}],\"foreign\":[{foreign}],\"pins\":[{pins}]}}"
+    )
+}
+
+fn words_of(alloc: Global, line: &str) -> Result<Vec<String>, AllocError> {
+    let mut words = Vec::new(alloc);
+    for word in line.split_whitespace() {
+        words.push(word.to_string(alloc)?)?;
+    }
+    Ok(words)
+}
+
+/// The three files that `CHECK` accepts.
+fn store_of(alloc: Global) -> Result<MemStore, Fail> {
+    let mut store = MemStore::new(alloc);
+    let image = image_of(alloc, IMAGE).ok_or("an image")?;
+    store.add("layout.json", layout_of(alloc, &["", "", ""])?.as_bytes())?;
+    store.add("image.elf", &image)?;
+    store.add("a.json", UNIT.as_bytes())?;
+    Ok(store)
+}
+
+/// Asserts what a command answers over a store.
+fn answers(
+    rt: &impl Abort,
+    alloc: Global,
+    words: &str,
+    store: &mut MemStore,
+    status: u8,
+    text: &str,
+) -> Result<(), Fail> {
+    let words = words_of(alloc, words)?;
+    let mut out = MemSink::new(alloc, 65_536, 65_536)?;
+    assert_eq!(rt;
+        valex(alloc, &words, store, &mut out),
+        status,
+        "before {text}"
+    );
+    let taken = std::str::from_utf8(out.taken())?;
+    assert_eq!(rt; taken, text);
+    Ok(())
+}
+
+/// The first section of a kind in a program; no text where it has none.
+fn section<'a>(program: &'a str, kind: &str) -> &'a str {
+    for part in program.split("\n#") {
+        if let Some((first, text)) = part.split_once('\n') {
+            if first == kind {
+                return text;
+            }
+        }
+    }
+    ""
+}
+
+/// The files of a program but its image.
+fn program_store(alloc: Global, program: &str) -> Result<MemStore, Fail> {
+    let mut store = MemStore::new(alloc);
+    let parts = [
+        section(program, "areas"),
+        section(program, "foreign"),
+        section(program, "pins"),
+    ];
+    store.add("layout.json", layout_of(alloc, &parts)?.as_bytes())?;
+    for name in ["a.json", "b.json"] {
+        store.add(name, section(program, name).as_bytes())?;
+    }
+    Ok(store)
+}
+
+/// Asserts the answers on the images of a program.
+fn judges(rt: &impl Abort, alloc: Global, program: &str) -> Result<(), Fail> {
+    let words = match section(program, "b.json") {
+        "" => CHECK,
+        _ => "check layout.json image.elf a.json b.json",
+    };
+    let mut store = program_store(alloc, program)?;
+    for part in program.split("\n#") {
+        let (kind, text) = part.split_once('\n').unwrap_or((part, ""));
+        if kind == "image" {
+            let image = image_of(alloc, text).ok_or("an image")?;
+            store.add("image.elf", &image)?;
+        } else if let Ok(status) = kind.parse::<u8>() {
+            let text = format!(in alloc; "{text}\n")?;
+            answers(rt, alloc, words, &mut store, status, text.as_str())?;
+        }
+    }
+    Ok(())
+}
+
+#[test]
+fn programs_of_functions(rt: HostRuntime) -> Result<(), Fail> {
+    for program in code_programs() {
+        judges(&rt, rt.alloc(), *program)?;
+    }
+    Ok(())
+}
+
+#[test]
+fn programs_with_variables(rt: HostRuntime) -> Result<(), Fail> {
+    for program in data_programs() {
+        judges(&rt, rt.alloc(), *program)?;
+    }
+    Ok(())
+}
+
+/// A text with another one in place of a part of it.
+fn changed(alloc: Global, text: &str, old: &str, new: &str) -> Result<String, Fail> {
+    let (front, back) = text.split_once(old).ok_or("a part of the text")?;
+    Ok(format!(in alloc; "{front}{new}{back}")?)
+}
+
+#[test]
+fn texts_that_are_refused(rt: HostRuntime) -> Result<(), Fail> {
+    let alloc = rt.alloc();
+    let layout = layout_of(alloc, &["", "", ""])?;
+    for (file, base, rows) in [
+        ("layout.json", layout.as_str(), layouts()),
+        ("a.json", UNIT, units()),
+    ] {
+        for (old, new, text) in rows {
+            let mut store = store_of(alloc)?;
+            store.add(file, changed(alloc, base, *old, *new)?.as_bytes())?;
+            answers(&rt, alloc, CHECK, &mut store, 3, *text)?;
+        }
+    }
+    Ok(())
+}
+
+/// The image with other bytes at a place.
+fn image_with(alloc: Global, place: usize, bytes: &[u8]) -> Result<Vec<u8>, Fail> {
+    let mut image = image_of(alloc, IMAGE).ok_or("an image")?;
+    for (i, byte) in bytes.iter().enumerate() {
+        if let Some(old) = image.get_mut(place.wrapping_add(i)) {
+            *old = *byte;
+        }
+    }
+    Ok(image)
+}
+
+#[test]
+fn images_that_are_refused(rt: HostRuntime) -> Result<(), Fail> {
+    let alloc = rt.alloc();
+    for (place, bytes, text) in images() {
+        let mut store = store_of(alloc)?;
+        store.add("image.elf", &image_with(alloc, *place, *bytes)?)?;
+        answers(&rt, alloc, CHECK, &mut store, 3, *text)?;
+        answers(
+            &rt,
+            alloc,
+            "show image.elf 0x10010000 3",
+            &mut store,
+            3,
+            *text,
+        )?;
+    }
+    Ok(())
+}
+
+#[test]
+fn images_that_are_cut_or_meet(rt: HostRuntime) -> Result<(), Fail> {
+    let alloc = rt.alloc();
+    let image = image_of(alloc, IMAGE).ok_or("an image")?;
+    let meeting = image_of(
+        alloc,
+        "entry 10010000\nsegment 10010000 5 8\nsegment 10010004 5 4",
+    )
+    .ok_or("an image")?;
+    let table = [
+        (image.as_slice(), 0, "refused image.elf elf 1 short 0\n"),
+        (image.as_slice(), 51, "refused image.elf elf 1 short 51\n"),
+        (image.as_slice(), 83, "refused image.elf elf 1 short 28\n"),
+        (image.as_slice(), 249, "refused image.elf elf 1 short 32\n"),
+        (
+            meeting.as_slice(),
+            65_536,
+            "refused image.elf elf 8 seg-overlap 84\n",
+        ),
+    ];
+    for (bytes, length, text) in table {
+        let mut store = store_of(alloc)?;
+        store.add("image.elf", bytes.get(..length).unwrap_or(bytes))?;
+        answers(&rt, alloc, CHECK, &mut store, 3, text)?;
+    }
+    Ok(())
+}
+
+/// Asserts that the first image of a program with another byte at any of so many places does not match.
+fn bytes_count(
+    rt: &impl Abort,
+    alloc: Global,
+    program: &str,
+    start: usize,
+    count: usize,
+) -> Result<(), Fail> {
+    let words = words_of(alloc, CHECK)?;
+    let mut store = program_store(alloc, program)?;
+    for i in 0..count {
+        let mut image = image_of(alloc, section(program, "image")).ok_or("an image")?;
+        let byte = image.get_mut(start.wrapping_add(i)).ok_or("a byte")?;
+        *byte ^= 1;
+        store.add("image.elf", &image)?;
+        let mut out = MemSink::new(alloc, 4096, 4096)?;
+        assert_eq!(rt; valex(alloc, &words, &mut store, &mut out), 1, "byte {i}");
+        assert!(rt; out.taken().starts_with(b"no\nrule "));
+    }
+    Ok(())
+}
+
+fn named(programs: &[&'static str], name: &str) -> Option<&'static str> {
+    programs.iter().find(|text| text.starts_with(name)).copied()
+}
+
+#[test]
+fn each_claimed_byte_counts(rt: HostRuntime) -> Result<(), Fail> {
+    let table = named(code_programs(), "jump table").ok_or("a program")?;
+    let load = named(data_programs(), "read-only load").ok_or("a program")?;
+    bytes_count(&rt, rt.alloc(), table, 84, 60)?;
+    bytes_count(&rt, rt.alloc(), load, 128, 4)
+}
+
+/// Which files there are, what stands in them, and what a command answers. `image` and `unit` stand for those that `CHECK` accepts.
+type Case = (
+    &'static str,
+    &'static [(&'static str, &'static str)],
+    u8,
+    &'static str,
+);
+
+static CASES: [Case; 26] = [
+    (
+        "check layout.json image.elf a.json",
+        &[
+            ("layout.json", "layout"),
+            ("image.elf", "image"),
+            ("a.json", "unit"),
+        ],
+        0,
+        REPORT,
+    ),
+    (
+        "check l i u",
+        &[("l", "layout"), ("i", "image"), ("u", "unit")],
+        0,
+        REPORT,
+    ),
+    (
+        "check a.json image.elf a.json",
+        &[("image.elf", "image"), ("a.json", "unit")],
+        3,
+        "refused a.json layout 5 unknown-word valex\n",
+    ),
+    (
+        "check layout.json a.json image.elf",
+        &[
+            ("layout.json", "layout"),
+            ("image.elf", "image"),
+            ("a.json", "unit"),
+        ],
+        3,
+        "refused a.json elf 2 ident 0\n",
+    ),
+    (
+        "check layout.json image.elf layout.json",
+        &[("layout.json", "layout"), ("image.elf", "image")],
+        3,
+        "refused layout.json dump 5 unknown-word valex\n",
+    ),
+    (
+        "check layout.json image.elf a.json a.json",
+        &[
+            ("layout.json", "layout"),
+            ("image.elf", "image"),
+            ("a.json", "unit"),
+        ],
+        3,
+        "refused a.json link 1 unit-twice a.c\n",
+    ),
+    (
+        "check layout.json image.elf a.json",
+        &[("image.elf", "image"), ("a.json", "unit")],
+        4,
+        "read fault layout.json\n",
+    ),
+    (
+        "check layout.json image.elf a.json",
+        &[("layout.json", "layout"), ("a.json", "unit")],
+        4,
+        "read fault image.elf\n",
+    ),
+    (
+        "check layout.json image.elf a.json",
+        &[("layout.json", "layout"), ("image.elf", "image")],
+        4,
+        "read fault a.json\n",
+    ),
+    (
+        "check layout.json image.elf a.json b.json",
+        &[
+            ("layout.json", "layout"),
+            ("image.elf", "image"),
+            ("a.json", "unit"),
+        ],
+        4,
+        "read fault b.json\n",
+    ),
+    (
+        "check layout.json image.elf a.json",
+        &[("layout.json", "{"), ("a.json", "unit")],
+        4,
+        "read fault image.elf\n",
+    ),
+    (
+        "check layout.json image.elf a.json",
+        &[("layout.json", "{"), ("image.elf", ""), ("a.json", "{")],
+        3,
+        "refused layout.json layout 1 not-json .\n",
+    ),
+    (
+        "check layout.json image.elf a.json",
+        &[
+            ("layout.json", "layout"),
+            ("image.elf", ""),
+            ("a.json", "{"),
+        ],
+        3,
+        "refused image.elf elf 1 short 0\n",
+    ),
+    (
+        "check layout.json image.elf a.json b.json",
+        &[
+            ("layout.json", "layout"),
+            ("image.elf", "image"),
+            ("a.json", "{"),
+            ("b.json", "[]"),
+        ],
+        3,
+        "refused a.json dump 1 not-json .\n",
+    ),
+    (
+        "check layout.json image.elf a.json b.json",
+        &[
+            ("layout.json", "layout"),
+            ("image.elf", "image"),
+            ("a.json", "unit"),
+            ("b.json", "[]"),
+        ],
+        3,
+        "refused b.json dump 3 wrong-kind .\n",
+    ),
+    ("check", &[], 2, USAGE),
+    ("", &[], 2, USAGE),
+    (
+        "check layout.json image.elf",
+        &[("layout.json", "layout"), ("image.elf", "image")],
+        2,
+        USAGE,
+    ),
+    (
+        "check layout.json image.elf -a.json",
+        &[
+            ("layout.json", "layout"),
+            ("image.elf", "image"),
+            ("-a.json", "unit"),
+        ],
+        2,
+        USAGE,
+    ),
+    (
+        "show image.elf 0x10010000 3",
+        &[("image.elf", "image")],
+        0,
+        "entry 10010000\nsegment 10010000 8 8 r-x\nsymbols 2\n10010000 38600007 addi 3,0,7\n10010004 4e800020 blr\n10010008 none\n",
+    ),
+    (
+        "show image.elf 0xfffffffc 65536",
+        &[("image.elf", "image")],
+        0,
+        "entry 10010000\nsegment 10010000 8 8 r-x\nsymbols 2\nfffffffc none\n",
+    ),
+    (
+        "show image.elf 0x10010002 3",
+        &[("image.elf", "image")],
+        2,
+        USAGE,
+    ),
+    (
+        "show image.elf 0x10010000 3",
+        &[],
+        4,
+        "read fault image.elf\n",
+    ),
+    (
+        "show a.json 0x10010000 3",
+        &[("a.json", "unit")],
+        3,
+        "refused a.json elf 2 ident 0\n",
+    ),
+    ("upgrade a.json", &[], 4, "read fault a.json\n"),
+    (
+        "upgrade layout.json",
+        &[("layout.json", "layout")],
+        3,
+        "refused layout.json dump 5 unknown-word valex\n",
+    ),
+];
+
+fn cases() -> &'static [Case] {
+    &CASES
+}
+
+fn add(alloc: Global, store: &mut MemStore, name: &str, content: &str) -> Result<(), Fail> {
+    match content {
+        "layout" => store.add(name, layout_of(alloc, &["", "", ""])?.as_bytes())?,
+        "image" => store.add(name, &image_of(alloc, IMAGE).ok_or("an image")?)?,
+        "unit" => store.add(name, UNIT.as_bytes())?,
+        text => store.add(name, text.as_bytes())?,
+    }
+    Ok(())
+}
+
+#[test]
+fn files_in_their_order(rt: HostRuntime) -> Result<(), Fail> {
+    let alloc = rt.alloc();
+    for (words, files, status, text) in cases() {
+        let mut store = MemStore::new(alloc);
+        for (name, content) in *files {
+            add(alloc, &mut store, *name, *content)?;
+        }
+        answers(&rt, alloc, *words, &mut store, *status, *text)?;
+    }
+    Ok(())
+}
+
+#[test]
+fn units_of_the_newest_version(rt: HostRuntime) -> Result<(), Fail> {
+    let alloc = rt.alloc();
+    for (unit, upgraded) in upgrades() {
+        let mut store = store_of(alloc)?;
+        let wanted = format!(in alloc; "{upgraded}\n")?;
+        store.add("a.json", unit.as_bytes())?;
+        answers(&rt, alloc, "upgrade a.json", &mut store, 0, wanted.as_str())?;
+        store.add("a.json", wanted.as_bytes())?;
+        answers(&rt, alloc, "upgrade a.json", &mut store, 0, wanted.as_str())?;
+    }
+    for (old, new, text) in units() {
+        let mut store = store_of(alloc)?;
+        store.add("a.json", changed(alloc, UNIT, *old, *new)?.as_bytes())?;
+        answers(&rt, alloc, "upgrade a.json", &mut store, 3, *text)?;
+    }
+    Ok(())
+}
+
+#[test]
+fn files_that_are_too_long(rt: HostRuntime) -> Result<(), Fail> {
+    let alloc = rt.alloc();
+    let table = [
+        (
+            CHECK,
+            "layout.json",
+            8_388_609,
+            "refused layout.json store 1 too-long 8388608\n",
+        ),
+        (
+            CHECK,
+            "image.elf",
+            33_554_433,
+            "refused image.elf store 1 too-long 33554432\n",
+        ),
+        (
+            CHECK,
+            "image.elf",
+            33_554_432,
+            "refused image.elf elf 2 ident 0\n",
+        ),
+        (
+            CHECK,
+            "a.json",
+            8_388_609,
+            "refused a.json store 1 too-long 8388608\n",
+        ),
+        (
+            "show image.elf 0x0 1",
+            "image.elf",
+            33_554_433,
+            "refused image.elf store 1 too-long 33554432\n",
+        ),
+        (
+            "upgrade a.json",
+            "a.json",
+            8_388_609,
+            "refused a.json store 1 too-long 8388608\n",
+        ),
+    ];
+    for (words, name, length, text) in table {
+        let mut store = store_of(alloc)?;
+        store.add(name, &vec![in alloc; b' '; length]?)?;
+        answers(&rt, alloc, words, &mut store, 3, text)?;
+    }
+    Ok(())
+}
+
+/// Eight dumps of 8,388,608 bytes may be read, and one byte more may not.
+#[test]
+fn dumps_that_are_too_long_together(rt: HostRuntime) -> Result<(), Fail> {
+    let alloc = rt.alloc();
+    let eight =
+        "check layout.json image.elf b.json b.json b.json b.json b.json b.json b.json b.json";
+    let nine = format!(in alloc; "{eight} c.json")?;
+    let mut store = store_of(alloc)?;
+    store.add("b.json", &vec![in alloc; b' '; 8_388_608]?)?;
+    answers(
+        &rt,
+        alloc,
+        eight,
+        &mut store,
+        3,
+        "refused b.json dump 1 not-json .\n",
+    )?;
+    store.add("c.json", b"")?;
+    answers(
+        &rt,
+        alloc,
+        nine.as_str(),
+        &mut store,
+        3,
+        "refused b.json dump 1 not-json .\n",
+    )?;
+    store.add("c.json", b"{")?;
+    answers(
+        &rt,
+        alloc,
+        nine.as_str(),
+        &mut store,
+        3,
+        "refused c.json store 2 total 67108864\n",
+    )
+}
+
+/// A unit of 8,277,609 bytes; its text of the newest version has 13 bytes more for each of its externals.
+#[test]
+fn an_upgraded_unit_that_is_too_long(rt: HostRuntime) -> Result<(), Fail> {
+    let alloc = rt.alloc();
+    let long = String::from_utf8(vec![in alloc; b'x'; 250]?)?;
+    let mut unit = String::from_str(
+        alloc,
+        r#"{"valex":"unit","version":1,"unit":"a.c","functions":[],"variables":[],"externals":["#,
+    )?;
+    for i in 10_000..37_500 {
+        let external = format!(in alloc;
+            "{{\"name\":\"{i}{long}\",\"sig\":{{\"args\":[],\"result\":\"none\"}}}},"
+        )?;
+        unit.push_str(external.as_str())?;
+    }
+    unit.push_str(r#"{"name":"e","sig":null}]}"#)?;
+    let mut store = store_of(alloc)?;
+    store.add("a.json", unit.as_bytes())?;
+    answers(
+        &rt,
+        alloc,
+        "upgrade a.json",
+        &mut store,
+        3,
+        "refused a.json store 1 too-long 8388608\n",
+    )
+}
+
+#[test]
+fn reads_and_puts_that_fail(rt: HostRuntime) -> Result<(), Fail> {
+    let alloc = rt.alloc();
+    // The command, the read that fails, the put that fails, how many bytes a put takes, the status, and what was taken. 0 fails none.
+    let table = [
+        (CHECK, 1, 0, 64, 4, "read fault layout.json\n"),
+        (CHECK, 2, 0, 64, 4, "read fault image.elf\n"),
+        (CHECK, 3, 0, 64, 4, "read fault a.json\n"),
+        (CHECK, 2, 1, 64, 5, ""),
+        (CHECK, 0, 2, 4, 5, "yes\n"),
+        (CHECK, 4, 200, 1, 0, REPORT),
+        (
+            "show image.elf 0x10010000 3",
+            1,
+            0,
+            64,
+            4,
+            "read fault image.elf\n",
+        ),
+        ("show image.elf 0x10010000 3", 0, 2, 5, 5, "entry"),
+        ("upgrade a.json", 1, 0, 64, 4, "read fault a.json\n"),
+        ("upgrade a.json", 0, 1, 64, 5, ""),
+        (
+            "check",
+            1,
+            2,
+            64,
+            5,
+            "usage: valex check LAYOUT IMAGE UNIT...\n       valex run LAYOUT ",
+        ),
+    ];
+    for (words, read, put, most, status, text) in table {
+        let words = words_of(alloc, words)?;
+        let mut store = store_of(alloc)?;
+        store.fail_call(read)?;
+        let mut out = MemSink::new(alloc, 4096, most)?;
+        out.fail_call(put)?;
+        assert_eq!(rt;
+            valex(alloc, &words, &mut store, &mut out),
+            status,
+            "before {text}"
+        );
+        assert_eq!(rt; out.taken(), text.as_bytes());
+    }
+    Ok(())
+}
+
+#[test]
+fn each_put_that_fails(rt: HostRuntime) -> Result<(), Fail> {
+    let alloc = rt.alloc();
+    let words = words_of(alloc, CHECK)?;
+    for (before, _) in REPORT.bytes().enumerate() {
+        let mut store = store_of(alloc)?;
+        let mut out = MemSink::new(alloc, 256, 1)?;
+        out.fail_call(before as u32 + 1)?;
+        assert_eq!(rt; valex(alloc, &words, &mut store, &mut out), 5);
+        assert_eq!(rt; out.taken().len(), before);
+        assert!(rt; REPORT.as_bytes().starts_with(out.taken()));
+    }
+    Ok(())
+}
+
+/// With room for so many bytes, of which a put takes so many.
+#[test]
+fn puts_of_few_bytes(rt: HostRuntime) -> Result<(), Fail> {
+    let alloc = rt.alloc();
+    let words = words_of(alloc, CHECK)?;
+    for (room, most, status) in [
+        (4096, 1, 0),
+        (4096, 7, 0),
+        (138, 100, 0),
+        (137, 100, 5),
+        (1, 64, 5),
+        (0, 1, 5),
+    ] {
+        let mut store = store_of(alloc)?;
+        let mut out = MemSink::new(alloc, room, most)?;
+        assert_eq!(rt; valex(alloc, &words, &mut store, &mut out), status);
+        let length = REPORT.len().min(room as usize);
+        assert_eq!(rt; Some(out.taken()), REPORT.as_bytes().get(..length));
+    }
+    Ok(())
+}

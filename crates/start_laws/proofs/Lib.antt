@@ -1,0 +1,6 @@
+pub mod Lists
+pub mod Blocks
+pub mod FirstLaid
+pub mod FirstCells
+pub mod FirstFiles
+pub mod Starts

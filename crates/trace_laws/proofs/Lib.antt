@@ -1,0 +1,6 @@
+mod LeastNumbers
+mod LaterRuns
+mod Common
+mod SeenEvents
+mod Cuts
+pub mod Agreeing

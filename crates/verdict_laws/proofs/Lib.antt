@@ -1,0 +1,2 @@
+mod ShownRows
+pub mod Longer

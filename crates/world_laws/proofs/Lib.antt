@@ -1,0 +1,5 @@
+pub mod Elements
+pub mod KindNumbers
+pub mod Loads
+pub mod Numbers
+pub mod WorldFacts
