@@ -13,7 +13,8 @@ changes of files of examples/gnu, one a line, then the command where it is anoth
     FILE padded to N bytes             spaces behind its last byte
 
 In every other fenced block each line `$ ./valex ..` (or `../valex`, `../../valex`) without a pipe is a command that is run in the page's folder, and the lines
-behind it, up to the next command, are its answer; a line `...` stands for any lines. The status has to be that of the answer's first line.
+behind it, up to the next command, are its answer; a line `...` stands for any lines. The status has to be that of the answer's first line, or of a
+run's last line.
 
 Last it compares examples/gnu/report.txt with the check of these files, and docs/memory_map.svg with what tools/memory_map.py draws of it.
 
@@ -35,8 +36,10 @@ FILES = ["layout.json", "image.elf", "main.json", "smooth.json", "mode.json"]
 CHECK = ["check", *FILES]
 REPORT = GNU / "report.txt"
 MAP = ROOT / "docs" / "memory_map.svg"
-PAGES = ["docs/RULES.md", "docs/FORMATS.md", "README.md", "examples/gnu/README.md"]
+PAGES = ["docs/RULES.md", "docs/FORMATS.md", "README.md", "examples/gnu/README.md", "examples/differs/README.md"]
+# by the first word of the first line, but for a run, whose last line has the verdict
 STATUSES = {"yes": 0, "no": 1, "usage:": 2, "refused": 3, "read": 4}
+VERDICTS = {"same": 0, "differ": 7}
 
 AT_ADDRESS = re.compile(r"(\S+) ([0-9a-f]{8}): ([0-9a-f]+) becomes ([0-9a-f]+)")
 AT_OFFSET = re.compile(r"(\S+) \+(\d+): ([0-9a-f]+) becomes ([0-9a-f]+)")
@@ -171,6 +174,15 @@ def is_same(due, got):
     return re.fullmatch(form, "".join(line + "\n" for line in got)) is not None
 
 
+def status_of(answer):
+    """The status that goes with the lines of an answer."""
+    if not answer:
+        return 0
+    if answer[0] == "assembly":
+        return VERDICTS.get(answer[-1].split(" ")[0], 0)
+    return STATUSES.get(answer[0].split(" ")[0], 0)
+
+
 def run(example, program, folder):
     """What differs, or None."""
     for name in FILES:
@@ -180,7 +192,7 @@ def run(example, program, folder):
         file.write_bytes(changed(file.read_bytes(), line))
     answer = subprocess.run([program, *example.words], cwd=example.folder or folder, capture_output=True)
     got = (answer.stdout + answer.stderr).decode(errors="replace").splitlines()
-    status = STATUSES.get(example.answer[0].split(" ")[0], 0) if example.answer else 0
+    status = status_of(example.answer)
     if answer.returncode != status:
         return f"status {answer.returncode}, wanted {status}\n  " + "\n  ".join(got[:8])
     if not is_same(example.answer, got):

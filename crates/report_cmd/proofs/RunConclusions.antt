@@ -37,7 +37,7 @@ module _ (layout image replies : List ℕ) (steps : ℕ) (units : List (List ℕ
   run_agrees (TooLong place limit) m h = absurd h
   run_agrees (PastTotal place) m h = absurd h
   run_agrees (Refused place e) m h = absurd (ok_or_err m.0 h.1 (run_inputs layout image replies units) m.1 h.3)
-  run_agrees (No f) m h = absurd (bound_once m.0 h.0 (same_run m.0 h.0 m.1 h.1) m.2 f h.2)
+  run_agrees (No f) m h = absurd (bound_once m.0 h.0 (same_run m.0 h.0 m.1 h.1) m.2 f h.2.0)
   run_agrees (Yes a) m h = absurd h
   run_agrees (Done text) m h = refl
   run_agrees (Differs text) m h = absurd (agree_once m.0 h.0 (same_run m.0 h.0 m.1 h.1) m.3 h.2.run.0)
@@ -48,7 +48,7 @@ module _ (layout image replies : List ℕ) (steps : ℕ) (units : List (List ℕ
   run_differs (TooLong place limit) m h = absurd h
   run_differs (PastTotal place) m h = absurd h
   run_differs (Refused place e) m h = absurd (ok_or_err m.0 h.1 (run_inputs layout image replies units) m.1 h.3)
-  run_differs (No f) m h = absurd (bound_once m.0 h.0 (same_run m.0 h.0 m.1 h.1) m.2 f h.2)
+  run_differs (No f) m h = absurd (bound_once m.0 h.0 (same_run m.0 h.0 m.1 h.1) m.2 f h.2.0)
   run_differs (Yes a) m h = absurd h
   run_differs (Done text) m h = absurd (agree_once h.0 m.0 (same_run h.0 m.0 h.1 m.1) h.2.run.0 m.3)
   run_differs (Differs text) m h = refl
@@ -61,8 +61,8 @@ module _ (layout image replies : List ℕ) (steps : ℕ) (units : List (List ℕ
   run_unbound (Refused place e) m h = absurd (ok_or_err m.0 h.1 (run_inputs layout image replies units) m.1 h.3)
   run_unbound (No f) m h = refl
   run_unbound (Yes a) m h = absurd h
-  run_unbound (Done text) m h = absurd (bound_once h.0 m.0 (same_run h.0 m.0 h.1 m.1) h.2.bound m.2 m.3)
-  run_unbound (Differs text) m h = absurd (bound_once h.0 m.0 (same_run h.0 m.0 h.1 m.1) h.2.bound m.2 m.3)
+  run_unbound (Done text) m h = absurd (bound_once h.0 m.0 (same_run h.0 m.0 h.1 m.1) h.2.bound m.2 m.3.0)
+  run_unbound (Differs text) m h = absurd (bound_once h.0 m.0 (same_run h.0 m.0 h.1 m.1) h.2.bound m.2 m.3.0)
 
   -- ---- from the status
 
@@ -74,7 +74,7 @@ module _ (layout image replies : List ℕ) (steps : ℕ) (units : List (List ℕ
   agrees_run (Refused place e) h z = absurd (omega (arith, z))
   agrees_run (No f) h z = absurd (omega (arith, z))
   agrees_run (Yes a) h z = absurd h
-  agrees_run (Done text) h z = (h.0, h.1, h.2.bound, h.2.run.0)
+  agrees_run (Done text) h z = (h.0, h.1, h.2.bound, h.2.run.0, λ m. refl)
   agrees_run (Differs text) h z = absurd (omega (arith, z))
 
   pub differs_run : (v : Verdict) → Runs layout image replies steps units v → status_of v ≡ 7 → IsRun false steps layout image replies units
@@ -86,7 +86,7 @@ module _ (layout image replies : List ℕ) (steps : ℕ) (units : List (List ℕ
   differs_run (No f) h z = absurd (omega (arith, z))
   differs_run (Yes a) h z = absurd h
   differs_run (Done text) h z = absurd (omega (arith, z))
-  differs_run (Differs text) h z = (h.0, h.1, h.2.bound, h.2.run.0)
+  differs_run (Differs text) h z = (h.0, h.1, h.2.bound, h.2.run.0, λ m. sym h.2.run.0 ∙ h.2.matching m)
 
   pub unbound_run : (v : Verdict) → Runs layout image replies steps units v → status_of v ≡ 1 → IsUnbound layout image replies units
   unbound_run Usage h z = absurd h

@@ -3,7 +3,6 @@ use Rattle.std.specs.Prelude.{◌≡◌, ◌≤◌, ◌⊎◌, ◌↔◌, ℕ, B
 use Rattle.limits.specs.declared.TheConstants.{MOST_DUMP_BYTES}
 use Rattle.outside.specs.Faults.{Rose}
 use Rattle.outside.specs.Store.{Files}
-use Rattle.ordered_tests.specs.Checks.{first_fault}
 use Rattle.image_model.specs.Bytes.{AreBytes}
 use Rattle.image_model.specs.Image.{Image}
 use Rattle.image_model.specs.Tests.{IsElf}
@@ -11,9 +10,9 @@ use Rattle.asm_syntax.specs.declared.unit.Unit as syntax
 use Rattle.dump_reader.specs.DumpFile.{unit_file}
 use Rattle.link_model.specs.Binding.{addresses}
 use Rattle.link_model.specs.declared.fault.Fault.{Fault}
-use Rattle.image_check.specs.Places.{bound_places}
+use Rattle.link_model.specs.Parts.{Matches}
 use Rattle.run_verdicts.specs.Files.{RunInputs, run_inputs}
-use Rattle.run_verdicts.specs.Runs.{IsBound, agrees_on}
+use Rattle.run_verdicts.specs.Runs.{IsBound, IsUnboundAt, agrees_on}
 use Rattle.judge_model.specs.Judge.{FilesMatch, IsFirstFault}
 use Rattle.commands.specs.Words.{word_at}
 use Rattle.commands.specs.Commands.{command_of}
@@ -27,16 +26,17 @@ use Rattle.command_verdicts.specs.Conclusions.{Concludes, upgraded}
 use Rattle.report_cmd.specs.Ends.{Outside, IsTaken}
 use Rattle.report_cmd.specs.Reports.{NamesFiles}
 
--- what a run reads links, its keys have addresses and its externals are where they may be; and both machines agree, or they do not
+-- what a run reads links, its keys have addresses and its externals are where they may be; and both machines agree, or they do not.
+-- Where the image matches, they agree
 abbrev pub IsRun : Bool → ℕ → List ℕ → List ℕ → List ℕ → List (List ℕ) → Type 0
 IsRun same steps layout image replies units =
     (r : RunInputs) × (run_inputs layout image replies units ≡ Ok r) × IsBound r.inputs
-    × (agrees_on r.inputs (addresses r.inputs) r.replies steps ≡ same)
+    × (agrees_on r.inputs (addresses r.inputs) r.replies steps ≡ same) × (Matches r.inputs → same ≡ true)
 
--- what a run reads links, and some key has no address or an external is where none may be
+-- what a run reads links, and some key has no address or an external is where none may be; such an image does not match
 abbrev pub IsUnbound : List ℕ → List ℕ → List ℕ → List (List ℕ) → Type 0
 IsUnbound layout image replies units =
-    (r : RunInputs) × (run_inputs layout image replies units ≡ Ok r) × (f : Fault) × (first_fault (bound_places r.inputs) ≡ Some f)
+    (r : RunInputs) × (run_inputs layout image replies units ≡ Ok r) × (f : Fault) × IsUnboundAt r.inputs f
 
 -- the image matches the layout and the units; both machines agree; the image is one; the dump is one of a unit, and within its limit
 -- when it is written anew

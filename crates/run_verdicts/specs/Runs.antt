@@ -6,6 +6,8 @@ use Rattle.asm_syntax.specs.declared.unit.Reply.{Reply}
 use Rattle.asm_syntax.specs.declared.unit.Unit.{Unit}
 use Rattle.link_model.specs.Binding.{addresses}
 use Rattle.link_model.specs.Candidates.{Inputs}
+use Rattle.link_model.specs.Parts.{Matches}
+use Rattle.link_model.specs.declared.fault.Fault.{Fault}
 use Rattle.image_check.specs.Places.{bound_places}
 use Rattle.judge_model.specs.Refused.{Refused, told}
 use Rattle.judge_model.specs.declared.refusal.Refusal.{Refusal}
@@ -55,14 +57,19 @@ IsRunAt g bs replies steps v = Compares g.program.units (asm_trace_of g bs repli
 abbrev pub IsBound : Inputs → Type 0
 IsBound g = first_fault (bound_places g) ≡ None
 
--- the same, where the image gives the keys their addresses
+-- the same, where the image gives the keys their addresses; where the image matches, the traces agree
 pub record IsRunOf (g : Inputs) (replies : List Reply) (steps : ℕ) (v : Verdict) : Type 0 where
   pub bound : IsBound g
   pub run : IsRunAt g (addresses g) replies steps v
+  pub matching : Matches g → agrees_on g (addresses g) replies steps ≡ true
 
--- the first place that fails, or want of memory
+-- the first place of the keys' addresses that fails; then the image does not match
+abbrev pub IsUnboundAt : Inputs → Fault → Type 0
+IsUnboundAt g f = (first_fault (bound_places g) ≡ Some f) × (Matches g → ⊥)
+
+-- the same, or want of memory
 abbrev pub IsFaultOf : Inputs → JudgeError → Type 0
-IsFaultOf g (errors.No f) = first_fault (bound_places g) ≡ Some f
+IsFaultOf g (errors.No f) = IsUnboundAt g f
 IsFaultOf g errors.Memory = ⊤
 IsFaultOf g _ = ⊥
 
@@ -73,7 +80,7 @@ IsRunAfter due steps v = (r : RunInputs) × (due ≡ Ok r) × IsRunOf r.inputs r
 
 abbrev pub IsStopAfter : Result RunInputs Refused → JudgeError → Type 0
 IsStopAfter due (errors.Refused r) = Tells (told r) due
-IsStopAfter due (errors.No f) = (r : RunInputs) × (due ≡ Ok r) × (first_fault (bound_places r.inputs) ≡ Some f)
+IsStopAfter due (errors.No f) = (r : RunInputs) × (due ≡ Ok r) × IsUnboundAt r.inputs f
 IsStopAfter due errors.Memory = ⊤
 
 abbrev pub IsVerdict : List ℕ → List ℕ → List ℕ → ℕ → List (List ℕ) → Verdict → Type 0
@@ -98,7 +105,7 @@ abbrev pub Runs : List ℕ → List ℕ → List ℕ → ℕ → List (List ℕ)
 Runs layout image replies steps units (Done text) = IsVerdict layout image replies steps units (Done text)
 Runs layout image replies steps units (Differs text) = IsVerdict layout image replies steps units (Differs text)
 Runs layout image replies steps units (No f) =
-    (r : RunInputs) × (run_inputs layout image replies units ≡ Ok r) × (first_fault (bound_places r.inputs) ≡ Some f)
+    (r : RunInputs) × (run_inputs layout image replies units ≡ Ok r) × IsUnboundAt r.inputs f
 Runs layout image replies steps units (Refuses place e) =
     (place ≡ refused_place e) × (x : Refused) × (told e ≡ Some x) × (run_inputs layout image replies units ≡ Err x)
 Runs layout image replies steps units _ = ⊥

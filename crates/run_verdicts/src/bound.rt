@@ -14,6 +14,7 @@ use image_check::binding::bound;
 use key_passes::fault::CheckFault;
 use layout_file::layout::Layout;
 use limits::IMAGE_STEPS_A_STEP;
+use link_laws::laws::matches_or_fails;
 use linked_program::program::Program;
 use machine_runs::asm_run::run_asm;
 use machine_runs::image_run::run_image;
@@ -23,6 +24,7 @@ use report_text::verdict::Verdict;
 use run_text::{is_same, run_text};
 use simulation::judge::JudgeError;
 use std::alloc::{AllocError, Global};
+use trace_laws::laws::matching_traces_agree;
 
 fn free_junk() -> Junk
     ensures { result ≡ free_junk }
@@ -84,6 +86,7 @@ fn run_placed(
 }
 
 /// The verdict on both runs; or the first place that fails, where some key has no address or an external is where none may be.
+/// Where the image matches, no such place fails and both runs agree.
 pub fn run_bound(
     alloc: Global,
     view: &ElfView,
@@ -96,6 +99,11 @@ pub fn run_bound(
     ensures yes { IfOk result (IsRunOf (given view.now layout.now program.now) replies.now steps) }
     ensures error { IfErr result (IsFaultOf (given view.now layout.now program.now)) }
 {
+    let _segments = view.segments();
+    let _stack = layout.stack();
+    let _units = program.units();
+    matches_or_fails();
+    matching_traces_agree();
     let binding = match bound(alloc, view, layout, program) {
         Ok(binding) => binding,
         Err(CheckFault::No(fault)) => return Err(JudgeError::No(fault)),

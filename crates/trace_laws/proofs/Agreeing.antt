@@ -50,10 +50,10 @@ same_traces t u a r show events outcome same end begins =
     let es : flat_events r ++ begins.adds ≡ u.events = begins.events in
     let ours : t.events ≡ flat_events r = events ∙ same in
     let common : common_events t.events u.events ≡ length t.events =
-        ap (λ l. common_events l u.events) ours ∙ ap (common_events (flat_events r)) (sym es) ∙ common_prefix (flat_events r) begins.adds
-        ∙ ap length (sym ours) in
+    ap (λ l. common_events l u.events) ours ∙ ap (common_events (flat_events r)) (sym es) ∙ common_prefix (flat_events r) begins.adds
+    ∙ ap length (sym ours) in
     and_from (common_events t.events u.events == length t.events)
-        (agrees t.outcome (common_events t.events u.events == length u.events) u.outcome)
+    (agrees t.outcome (common_events t.events u.events == length u.events) u.outcome)
     (eq-eqb (common_events t.events u.events) (length t.events) common)
     (ap (λ n. agrees t.outcome (n == length u.events) u.outcome) common ∙ by outcome)
   where
@@ -72,8 +72,12 @@ matching_traces_agree linking matching faithful starting g loadable layout linke
     let size = stack_size g.layout in
     let run : ℕ → AsmRun = λ n. program_run g.program replies n in
     let show = asm_seen g bs in
-    let known : IsKnown g bs = record { loadable = loadable; layout = layout; linked = linking g.program linked;
-        facts = matching g bs layout linked matches } in
+    let known : IsKnown g bs = record {
+      loadable = loadable;
+      layout = layout;
+      linked = linking g.program linked;
+      facts = matching g bs layout linked matches;
+    } in
     let first = starting g bs known stack long junk wide in
     let room = first.laid.fits in
     let c = trace_cut show size run (omega arith) (omega arith) steps in
@@ -84,7 +88,7 @@ matching_traces_agree linking matching faithful starting g loadable layout linke
     let few : f.steps ≤ IMAGE_STEPS_A_STEP * steps = let a = f.few in let b = c.few in omega arith in
     let reads : read_total (flat_events r) ≤ MOST_TRACE_BYTES = subst (λ es. read_total es ≤ MOST_TRACE_BYTES) same c.reads in
     let b = trace_begins g.layout.stop (outside g.program bs) (flat.first_state g bs junk stack) replies f.steps
-        (IMAGE_STEPS_A_STEP * steps) few reads in
+    (IMAGE_STEPS_A_STEP * steps) few reads in
     same_traces (asm_trace g bs run steps) (flat_trace (image_run g bs junk stack replies) (IMAGE_STEPS_A_STEP * steps)) (run c.taken) r
-        show
+    show
     c.events c.outcome same f.outcome b

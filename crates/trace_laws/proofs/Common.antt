@@ -21,9 +21,9 @@ seen_own e =
     and_from (e.event.number == e.event.number && e.event.count == e.event.count && pointwise same_number e.event.words e.event.words)
     (pointwise (pointwise same_number) e.read e.read)
     (and_from (e.event.number == e.event.number && e.event.count == e.event.count) (pointwise same_number e.event.words e.event.words)
-      (and_from (e.event.number == e.event.number) (e.event.count == e.event.count) (eq-eqb e.event.number e.event.number refl)
-        (eq-eqb e.event.count e.event.count refl))
-      (numbers_own e.event.words))
+    (and_from (e.event.number == e.event.number) (e.event.count == e.event.count) (eq-eqb e.event.number e.event.number refl)
+    (eq-eqb e.event.count e.event.count refl))
+    (numbers_own e.event.words))
     (pointwise_own (pointwise same_number) numbers_own e.read)
 
 -- all of the first

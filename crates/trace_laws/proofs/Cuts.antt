@@ -146,6 +146,10 @@ module _ (show : AsmEvent → Seen) (size : ℕ) (run : ℕ → AsmRun) (first_f
           let w = within n l.2 in
           let lt = l.0 in
           rw e (record {
-            taken = n; few = omega arith; events = refl; outcome = inr (at_limit (is_past_stack size (run (suc n)))); fits = w.0;
-                reads = w.1;
+            taken = n;
+            few = omega arith;
+            events = refl;
+            outcome = inr (at_limit (is_past_stack size (run (suc n))));
+            fits = w.0;
+            reads = w.1;
           })
