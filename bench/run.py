@@ -5,9 +5,9 @@
 
 Each size is a number of functions; bench/generate.py writes the program. In the same run, on the same files, it times
 `powerpc-linux-gnu-objdump -d` of the image, and a bare parse of the dumps: a program that is given their names and reads each into
-a tree by the kit's serde_json (--parser), or Python's json where none is given. Each time is the least processor time (user and
-system) of the runs of one command, and the memory is the largest resident set of its runs. Prints a table in Markdown,
-and then each aim with what was reached:
+a tree (--parser). By default it is crates/bare_parse, over the kit's serde_json, or Python's json where that is not built. Each time
+is the least processor time (user and system) of the runs of one command, and the memory is the largest resident set of its runs.
+Prints a table in Markdown, and then each aim with what was reached:
 
 - at the largest size, check takes at most 0.75 of the time of objdump -d, and twice that of a bare parse;
 - from one size to the next, twice the input takes at most 2.2 times the time;
@@ -26,6 +26,7 @@ import generate
 
 ROOT = pathlib.Path(__file__).resolve().parent.parent
 PROGRAM = ROOT / "crates" / "report_cmd" / "out" / "report_cmd"
+PARSER = ROOT / "crates" / "bare_parse" / "out" / "bare_parse"  # `rt run` in its folder builds it
 OBJDUMP = "powerpc-linux-gnu-objdump"
 PYTHON_PARSER = [sys.executable, "-S", "-c", "import json, sys\nfor name in sys.argv[1:]: json.loads(open(name, 'rb').read())"]
 MEGABYTE = 1e6
@@ -101,7 +102,7 @@ def print_table(rows, parser):
     print("|" + "---|" * len(HEAD))
     for before, row in zip([None] + rows, rows):
         print("| " + " | ".join(row.cells(before)) + " |")
-    print(f"\nThe bare parse is by {parser or 'json of Python, no program was given'}.")
+    print(f"\nThe bare parse is by {parser or 'json of Python, since crates/bare_parse is not built'}.")
 
 
 def print_aims(rows):
@@ -131,7 +132,7 @@ def main():
     parser.add_argument("--repeat", type=int, default=3, help="runs of each command")
     parser.add_argument("--seed", type=int, default=1, help="of the generated programs")
     parser.add_argument("--program", type=pathlib.Path, default=PROGRAM, help="the built program")
-    parser.add_argument("--parser", type=pathlib.Path, help="a program that reads the files of its words by serde_json")
+    parser.add_argument("--parser", type=pathlib.Path, default=PARSER if PARSER.is_file() else None, help="a program that parses the files of its words")
     parser.add_argument("--folder", type=pathlib.Path, help="where generated programs are kept")
     options = parser.parse_args()
     if not options.program.is_file():

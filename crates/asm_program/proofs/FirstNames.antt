@@ -1,5 +1,5 @@
 -- A map from borrowed names to declarations.
-use Rattle.std.proofs.Common.{◌≡◌, ℕ, Bool, true, false, List, [], ◌∷◌, cond, refl, sym, ◌∙◌, ap, Bor}
+use Rattle.std.proofs.Common.{◌≡◌, ℕ, Bool, true, false, List, [], ◌∷◌, cond, refl, sym, ◌∙◌, ap}
 use Rattle.std.specs.Prelude.{Option, Some, None, is_some, option_map}
 use Rattle.std.specs.Option.{option_or}
 use Rattle.std.specs.Map.{lookup}
@@ -10,12 +10,14 @@ use Rattle.std.specs.Ordering.{is_eq}
 use Rattle.std.specs.BTreeMap.{insert_entry}
 use Rattle.std.proofs.lemmas.Slice.Eq.{bytes_eq-Decides}
 use Rattle.link_model.specs.Program.{Declaration}
+use Rattle.asm_program.specs.declared.codes.CodedName.{CodedName}
 use Rattle.asm_program.specs.declared.declared.Declared.{Declared}
 use Rattle.asm_program.specs.Seen.{declaration_seen, named}
-use Rattle.asm_program.proofs.NameSets.{is_kept, is_kept_is, by_text, kept_alike}
+use Rattle.asm_program.proofs.CodedNames.{by_text}
+use Rattle.asm_program.proofs.NameSets.{is_kept, is_kept_is, kept_alike}
 
 abbrev pub Entry : Type 0
-Entry = Bor (List ℕ) × Declared
+Entry = CodedName × Declared
 
 equal_entry : (a b : Bool) (v w : Declared) (o : Option Declared) → a ≡ b → cond a (Some v) o ≡ cond b (Some v) (cond a (Some w) o)
 equal_entry true true v w o h = refl
@@ -34,15 +36,15 @@ not_both true p = absurd (p refl)
 not_both false p = refl
 
 -- a name cannot be equal to two that differ
-apart : (q : List ℕ) (k e : Bor (List ℕ)) → by_text k e ≡ Greater → is_kept q e ≡ true → is_kept q k ≡ false
+apart : (q : List ℕ) (k e : CodedName) → by_text k e ≡ Greater → is_kept q e ≡ true → is_kept q k ≡ false
 apart q k e h at = not_both (is_kept q k) (λ here.
-    let s : q ≡ e.now = (bytes_eq-Decides q e.now).0 (sym (is_kept_is q e) ∙ at) in
-    let t : q ≡ k.now = (bytes_eq-Decides q k.now).0 (sym (is_kept_is q k) ∙ here) in
-    let same : is_kept k.now e ≡ true = is_kept_is k.now e ∙ (bytes_eq-Decides k.now e.now).1 (sym t ∙ s) in
-    let g : is_kept k.now e ≡ false = ap is_eq h in
+    let s : q ≡ e.name.now = (bytes_eq-Decides q e.name.now).0 (sym (is_kept_is q e) ∙ at) in
+    let t : q ≡ k.name.now = (bytes_eq-Decides q k.name.now).0 (sym (is_kept_is q k) ∙ here) in
+    let same : is_kept k.name.now e ≡ true = is_kept_is k.name.now e ∙ (bytes_eq-Decides k.name.now e.name.now).1 (sym t ∙ s) in
+    let g : is_kept k.name.now e ≡ false = ap is_eq h in
     cc)
 
-entry_step : (q : List ℕ) (e : Entry) (es : List Entry) (k : Bor (List ℕ)) (v : Declared) (o : Ordering) → by_text k e.0 ≡ o
+entry_step : (q : List ℕ) (e : Entry) (es : List Entry) (k : CodedName) (v : Declared) (o : Ordering) → by_text k e.0 ≡ o
     → lookup (is_kept q) (insert_entry by_text es k v) ≡ cond (is_kept q k) (Some v) (lookup (is_kept q) es)
     → lookup (is_kept q) (insert_entry by_text (e ∷ es) k v) ≡ cond (is_kept q k) (Some v) (lookup (is_kept q) (e ∷ es))
 entry_step q e es k v Less h again = rw h refl
@@ -52,7 +54,7 @@ entry_step q e es k v Greater h again =
     rw h (ap (λ o. cond (is_kept q e.0) (Some e.1) o) again
     ∙ greater_entry (is_kept q e.0) (is_kept q k) v e.1 (lookup (is_kept q) es) (apart q k e.0 h))
 
-insert_found : (q : List ℕ) (es : List Entry) (k : Bor (List ℕ)) (v : Declared)
+insert_found : (q : List ℕ) (es : List Entry) (k : CodedName) (v : Declared)
     → lookup (is_kept q) (insert_entry by_text es k v) ≡ cond (is_kept q k) (Some v) (lookup (is_kept q) es)
 insert_found q [] k v = refl
 insert_found q (e ∷ es) k v = entry_step q e es k v (by_text k e.0) refl (insert_found q es k v)
@@ -67,16 +69,16 @@ seen_step false false d o p h k = k
 -- a look-up, as it is seen
 pub get_is : (q : List ℕ) (es : List Entry) → option_map declaration_seen (lookup (is_kept q) es) ≡ lookup (bytes_eq q) (named es)
 get_is q [] = refl
-get_is q (e ∷ es) = seen_step (is_kept q e.0) (bytes_eq q e.0.now) e.1 (lookup (is_kept q) es) (lookup (bytes_eq q) (named es))
+get_is q (e ∷ es) = seen_step (is_kept q e.0) (bytes_eq q e.0.name.now) e.1 (lookup (is_kept q) es) (lookup (bytes_eq q) (named es))
     (is_kept_is q e.0) (get_is q es)
 
-pub insert_seen : (q : List ℕ) (es : List Entry) (k : Bor (List ℕ)) (v : Declared)
-    → lookup (bytes_eq q) (named (insert_entry by_text es k v)) ≡ cond (bytes_eq q k.now) (Some (declaration_seen v))
+pub insert_seen : (q : List ℕ) (es : List Entry) (k : CodedName) (v : Declared)
+    → lookup (bytes_eq q) (named (insert_entry by_text es k v)) ≡ cond (bytes_eq q k.name.now) (Some (declaration_seen v))
     (lookup (bytes_eq q) (named es))
 insert_seen q es k v =
     sym (get_is q (insert_entry by_text es k v))
     ∙ (ap (option_map declaration_seen) (insert_found q es k v)
-    ∙ seen_step (is_kept q k) (bytes_eq q k.now) v (lookup (is_kept q) es) (lookup (bytes_eq q) (named es)) (is_kept_is q k) (get_is q es))
+    ∙ seen_step (is_kept q k) (bytes_eq q k.name.now) v (lookup (is_kept q) es) (lookup (bytes_eq q) (named es)) (is_kept_is q k) (get_is q es))
 
 turn : (b : Bool) (d : Declaration) (o : Option Declaration) → (b ≡ true → is_some o ≡ false)
     → cond b (Some d) o ≡ option_or o (cond b (Some d) None)

@@ -1,5 +1,6 @@
 pub mod SeenLists
 mod Places
+pub mod CodedNames
 pub mod NameSets
 mod UnitNames
 pub mod Pieces

@@ -1,30 +1,29 @@
 -- A set of borrowed names against the list of names that went in.
-use Rattle.std.proofs.Common.{◌≡◌, ℕ, Bool, true, false, ◌||◌, List, [], ◌∷◌, ◌++◌, map, refl, sym, ◌∙◌, ap, Bor}
+use Rattle.std.proofs.Common.{◌≡◌, ℕ, Bool, true, false, ◌||◌, List, [], ◌∷◌, ◌++◌, map, refl, sym, ◌∙◌, ap}
 use Rattle.std.specs.Str.{bytes_eq}
 use Rattle.std.specs.List.{list_any}
 use Rattle.std.specs.declared.cmp.Ordering.{Ordering}
 use Rattle.std.specs.declared.cmp.Ordering.TheVariants.{Less, Equal, Greater}
-use Rattle.std.specs.Cmp.Lexicographic.{slice_cmp, nat_list_eq_equiv}
-use Rattle.std.specs.Ordering.{nat_cmp, is_eq}
+use Rattle.std.specs.Cmp.Lexicographic.{nat_list_eq_equiv}
+use Rattle.std.specs.Ordering.{is_eq}
 use Rattle.std.specs.BTreeSet.{insert_key}
 use Rattle.asm_syntax.specs.declared.unit.Unit.{Unit}
 use Rattle.asm_shapes.specs.Units.{function_name, variable_name, external_name}
 use Rattle.link_model.specs.Program.{defines, declares}
-use Rattle.asm_program.specs.Texts.{texts}
-use Rattle.std.proofs.lemmas.Map.Text.{is_eq-slice_cmp}
+use Rattle.asm_program.specs.declared.codes.CodedName.{CodedName}
+use Rattle.asm_program.specs.Codes.{by_code}
+use Rattle.asm_program.specs.Coded.{coded_texts}
+use Rattle.asm_program.proofs.CodedNames.{by_code_total, by_text, code_is}
 use Rattle.std.proofs.lemmas.List.Folds.{list_any-append}
-use Rattle.std.proofs.lemmas.Cmp.{nat_list_cmp_total, alike_right}
+use Rattle.std.proofs.lemmas.Cmp.{alike_right}
 
 -- a kept name equals v
-abbrev pub is_kept : List ℕ → Bor (List ℕ) → Bool
-is_kept v y = is_eq (slice_cmp nat_cmp v y.now)
-
-abbrev pub by_text : Bor (List ℕ) → Bor (List ℕ) → Ordering
-by_text x y = slice_cmp nat_cmp x.now y.now
+abbrev pub is_kept : List ℕ → CodedName → Bool
+is_kept v y = is_eq (by_code v y.name.now)
 
 -- equal names pass alike
-pub kept_alike : (v : List ℕ) (x y : Bor (List ℕ)) → by_text x y ≡ Equal → is_kept v y ≡ is_kept v x
-kept_alike v x y e = ap is_eq (sym (alike_right nat_list_cmp_total x.now y.now v e))
+pub kept_alike : (v : List ℕ) (x y : CodedName) → by_text x y ≡ Equal → is_kept v y ≡ is_kept v x
+kept_alike v x y e = ap is_eq (sym (alike_right by_code_total x.name.now y.name.now v e))
 
 or_swap : (a b c : Bool) → (a || (b || c)) ≡ (b || (a || c))
 or_swap true true c = refl
@@ -38,7 +37,7 @@ equal_or true false c e = cc
 equal_or false true c e = cc
 equal_or false false c e = refl
 
-insert_step : (v : List ℕ) (x : Bor (List ℕ)) (xs : List (Bor (List ℕ))) (k : Bor (List ℕ)) (o : Ordering) → by_text k x ≡ o
+insert_step : (v : List ℕ) (x : CodedName) (xs : List CodedName) (k : CodedName) (o : Ordering) → by_text k x ≡ o
     → list_any (is_kept v) (insert_key by_text xs k) ≡ (is_kept v k || list_any (is_kept v) xs)
     → list_any (is_kept v) (insert_key by_text (x ∷ xs) k) ≡ (is_kept v k || list_any (is_kept v) (x ∷ xs))
 insert_step v x xs k Less e again = rw e refl
@@ -46,7 +45,7 @@ insert_step v x xs k Equal e again = rw e (equal_or (is_kept v x) (is_kept v k) 
 insert_step v x xs k Greater e again =
     rw e (ap (λ b. is_kept v x || b) again ∙ or_swap (is_kept v x) (is_kept v k) (list_any (is_kept v) xs))
 
-insert_kept : (v : List ℕ) (keys : List (Bor (List ℕ))) (k : Bor (List ℕ))
+insert_kept : (v : List ℕ) (keys : List CodedName) (k : CodedName)
     → list_any (is_kept v) (insert_key by_text keys k) ≡ (is_kept v k || list_any (is_kept v) keys)
 insert_kept v [] k = refl
 insert_kept v (x ∷ xs) k = insert_step v x xs k (by_text k x) refl (insert_kept v xs k)
@@ -57,19 +56,19 @@ or_turn true false = refl
 or_turn false true = refl
 or_turn false false = refl
 
-pub is_kept_is : (v : List ℕ) (y : Bor (List ℕ)) → is_kept v y ≡ bytes_eq v y.now
-is_kept_is v y = is_eq-slice_cmp v y.now
+pub is_kept_is : (v : List ℕ) (y : CodedName) → is_kept v y ≡ bytes_eq v y.name.now
+is_kept_is v y = code_is v y.name.now
 
-pub contains_is : (v : List ℕ) (keys : List (Bor (List ℕ))) → list_any (is_kept v) keys ≡ list_any (bytes_eq v) (texts keys)
+pub contains_is : (v : List ℕ) (keys : List CodedName) → list_any (is_kept v) keys ≡ list_any (bytes_eq v) (coded_texts keys)
 contains_is v [] = refl
-contains_is v (y ∷ ys) = ap (λ b. b || list_any (is_kept v) ys) (is_kept_is v y) ∙ ap (λ b. bytes_eq v y.now || b) (contains_is v ys)
+contains_is v (y ∷ ys) = ap (λ b. b || list_any (is_kept v) ys) (is_kept_is v y) ∙ ap (λ b. bytes_eq v y.name.now || b) (contains_is v ys)
 
-pub insert_is : (v : List ℕ) (keys : List (Bor (List ℕ))) (k : Bor (List ℕ))
-    → list_any (bytes_eq v) (texts (insert_key by_text keys k)) ≡ (bytes_eq v k.now || list_any (bytes_eq v) (texts keys))
+pub insert_is : (v : List ℕ) (keys : List CodedName) (k : CodedName)
+    → list_any (bytes_eq v) (coded_texts (insert_key by_text keys k)) ≡ (bytes_eq v k.name.now || list_any (bytes_eq v) (coded_texts keys))
 insert_is v keys k =
     sym (contains_is v (insert_key by_text keys k))
     ∙ (insert_kept v keys k
-    ∙ (ap (λ b. b || list_any (is_kept v) keys) (is_kept_is v k) ∙ ap (λ b. bytes_eq v k.now || b) (contains_is v keys)))
+    ∙ (ap (λ b. b || list_any (is_kept v) keys) (is_kept_is v k) ∙ ap (λ b. bytes_eq v k.name.now || b) (contains_is v keys)))
 
 -- the members of a set are those of a list
 abbrev pub AreNames : List (List ℕ) → List (List ℕ) → Type 0

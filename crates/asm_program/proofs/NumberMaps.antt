@@ -1,29 +1,39 @@
 -- A map from names in scopes to numbers.
-use Rattle.std.proofs.Common.{◌≡◌, ℕ, Bool, true, false, List, [], ◌∷◌, cond, refl, sym, ◌∙◌, ap, Bor}
+use Rattle.std.proofs.Common.{◌≡◌, ℕ, Bool, true, false, List, [], ◌∷◌, cond, refl, sym, ◌∙◌, ap}
 use Rattle.std.specs.Prelude.{Option, Some}
 use Rattle.std.specs.List.{AllByRecursion}
 use Rattle.std.specs.List.Sorted.{IsStrictlySortedBy}
 use Rattle.std.specs.Map.{lookup, keys_of}
 use Rattle.std.specs.declared.cmp.Ordering.{Ordering}
 use Rattle.std.specs.declared.cmp.Ordering.TheVariants.{Less, Equal, Greater}
-use Rattle.std.specs.Ordering.{is_eq}
+use Rattle.std.specs.Ordering.{nat_cmp, is_eq, ordering_then}
 use Rattle.std.specs.BTreeMap.{insert_entry}
 use Rattle.std.proofs.lemmas.Cmp.{alike_right}
+use Rattle.asm_program.specs.declared.codes.CodedName.{CodedName}
+use Rattle.asm_program.specs.Coded.{by_coded}
 use Rattle.asm_program.specs.Scopes.{is_same}
-use Rattle.asm_program.specs.Numbered.{numbered, by_scope}
-use Rattle.asm_program.proofs.ScopedNames.{by_scope_total, same_is}
+use Rattle.asm_program.specs.Numbered.{numbered, by_name}
+use Rattle.asm_program.proofs.CodedNames.{coded_is}
+use Rattle.asm_program.proofs.ScopedNames.{by_name_total, same_is}
 
 abbrev pub Pair : Type 0
-Pair = ℕ × Bor (List ℕ)
+Pair = CodedName × ℕ
 
 abbrev pub name_of_pair : Pair → ℕ × List ℕ
-name_of_pair k = (k.0, k.1.now)
+name_of_pair k = (k.1, k.0.name.now)
 
 abbrev pub by_pair : Pair → Pair → Ordering
-by_pair j k = by_scope (name_of_pair j) (name_of_pair k)
+by_pair j k = by_name (name_of_pair j) (name_of_pair k)
+
+-- by the codes that are kept
+abbrev pub by_key : Pair → Pair → Ordering
+by_key j k = ordering_then (by_coded j.0 k.0) (nat_cmp j.1 k.1)
+
+pub pair_order : by_key ≡ by_pair
+pair_order = λ i j k. ordering_then (coded_is j.0 k.0 i) (nat_cmp j.1 k.1)
 
 abbrev pub is_pair : ℕ × List ℕ → Pair → Bool
-is_pair q k = is_eq (by_scope q (name_of_pair k))
+is_pair q k = is_eq (by_name q (name_of_pair k))
 
 eq_is : (o : Ordering) → is_eq o ≡ true → o ≡ Equal
 eq_is Less h = cc
@@ -31,8 +41,8 @@ eq_is Equal h = refl
 eq_is Greater h = cc
 
 -- what is the same as a name passes as it does
-same_alike : (q x y : ℕ × List ℕ) → is_eq (by_scope q x) ≡ true → is_eq (by_scope q y) ≡ is_eq (by_scope x y)
-same_alike q x y h = ap is_eq (by_scope_total.congr q x y (eq_is _ h))
+same_alike : (q x y : ℕ × List ℕ) → is_eq (by_name q x) ≡ true → is_eq (by_name q y) ≡ is_eq (by_name x y)
+same_alike q x y h = ap is_eq (by_name_total.congr q x y (eq_is _ h))
 
 equal_entry : (a b : Bool) (v w : ℕ) (o : Option ℕ) → a ≡ b → cond a (Some v) o ≡ cond b (Some v) (cond a (Some w) o)
 equal_entry true true v w o h = refl
@@ -62,7 +72,7 @@ entry_step : (q : ℕ × List ℕ) (e : Pair × ℕ) (es : List (Pair × ℕ)) (
 entry_step q e es k v Less h again = rw h refl
 entry_step q e es k v Equal h again =
     rw h (equal_entry (is_pair q e.0) (is_pair q k) v e.1 (lookup (is_pair q) es)
-    (ap is_eq (sym (alike_right by_scope_total (name_of_pair k) (name_of_pair e.0) q h))))
+    (ap is_eq (sym (alike_right by_name_total (name_of_pair k) (name_of_pair e.0) q h))))
 entry_step q e es k v Greater h again =
     rw h (ap (λ o. cond (is_pair q e.0) (Some e.1) o) again
     ∙ greater_entry (is_pair q e.0) (is_pair q k) v e.1 (lookup (is_pair q) es) (apart q k e.0 h))
@@ -89,11 +99,11 @@ set_is q es k v =
 -- ---- in the order of the map
 
 below_all : (x : Pair) (es : List (Pair × ℕ)) → AllByRecursion (λ y. by_pair x y ≡ Less) (keys_of es)
-    → AllByRecursion (λ y. by_scope (name_of_pair x) y ≡ Less) (keys_of (numbered es))
+    → AllByRecursion (λ y. by_name (name_of_pair x) y ≡ Less) (keys_of (numbered es))
 below_all x [] h = tt
 below_all x (e ∷ es) h = (h.0, below_all x es h.1)
 
-pub order_seen : (es : List (Pair × ℕ)) → IsStrictlySortedBy by_pair (keys_of es) → IsStrictlySortedBy by_scope (keys_of (numbered es))
+pub order_seen : (es : List (Pair × ℕ)) → IsStrictlySortedBy by_pair (keys_of es) → IsStrictlySortedBy by_name (keys_of (numbered es))
 unfolding IsStrictlySortedBy
 order_seen [] h = tt
 order_seen (e ∷ es) h = (below_all e.0 es h.0, order_seen es h.1)

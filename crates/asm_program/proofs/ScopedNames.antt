@@ -2,43 +2,34 @@
 use Rattle.std.proofs.Common.{◌≡◌, ℕ, ◌+◌, Bool, true, false, ◌&&◌, not, List, refl, ◌∙◌, ap, arith, if◌then◌else◌}
 use Rattle.std.specs.Prelude.{◌==◌}
 use Rattle.std.specs.Str.{bytes_eq}
-use Rattle.std.specs.declared.cmp.Ordering.{Ordering}
-use Rattle.std.specs.declared.cmp.Ordering.TheVariants.{Less, Equal, Greater}
 use Rattle.std.specs.Cmp.{IsTotalOrder}
-use Rattle.std.specs.Cmp.Lexicographic.{slice_cmp}
-use Rattle.std.specs.Ordering.{nat_cmp, is_eq, ordering_then}
+use Rattle.std.specs.Ordering.{nat_cmp, is_eq}
 use Rattle.std.proofs.lemmas.Bool.{eqb-true, eq-eqb}
-use Rattle.std.proofs.lemmas.Cmp.{nat_cmp_total, nat_list_cmp_total, on_total, then_total}
-use Rattle.std.proofs.lemmas.Map.Text.{is_eq-slice_cmp}
+use Rattle.std.proofs.lemmas.Cmp.{nat_cmp_total, on_total, then_total}
 use Rattle.std.proofs.lemmas.Slice.Eq.{bytes_eq-Decides}
 use Rattle.link_model.specs.Program.{Declaration, name_of, is_static, same_key, is_static_named, is_global_named}
 use Rattle.asm_program.specs.Scopes.{scope_of, scoped_name, is_same, is_of}
-use Rattle.asm_program.specs.Numbered.{by_scope}
+use Rattle.asm_program.specs.Codes.{by_code}
+use Rattle.asm_program.specs.Numbered.{by_name}
+use Rattle.asm_program.proofs.CodedNames.{by_code_total, code_is, then_eq, nat_eq}
 use Rattle.asm_program.proofs.NameSets.{bytes_eq_swap}
 
-pub by_scope_total : IsTotalOrder by_scope
-by_scope_total = then_total (on_total (λ (p : ℕ × List ℕ). p.0) nat_cmp_total) (on_total (λ (p : ℕ × List ℕ). p.1) nat_list_cmp_total)
-
-then_eq : (a b : Ordering) → is_eq (ordering_then a b) ≡ (is_eq a && is_eq b)
-then_eq Less b = refl
-then_eq Equal b = refl
-then_eq Greater b = refl
-
-nat_eq : (m n : ℕ) → is_eq (nat_cmp m n) ≡ (m == n)
-nat_eq m n = grind arith
-
-pub same_is : (p q : ℕ × List ℕ) → is_eq (by_scope p q) ≡ is_same p q
-same_is p q =
-    then_eq (nat_cmp p.0 q.0) (slice_cmp nat_cmp p.1 q.1)
-    ∙ (λ k. nat_eq p.0 q.0 k && is_eq-slice_cmp p.1 q.1 k)
-
--- ---- the tests of names
+pub by_name_total : IsTotalOrder by_name
+by_name_total = then_total (on_total (λ (p : ℕ × List ℕ). p.1) by_code_total) (on_total (λ (p : ℕ × List ℕ). p.0) nat_cmp_total)
 
 and_swap : (a b : Bool) → (a && b) ≡ (b && a)
 and_swap true true = refl
 and_swap true false = refl
 and_swap false true = refl
 and_swap false false = refl
+
+pub same_is : (p q : ℕ × List ℕ) → is_eq (by_name p q) ≡ is_same p q
+same_is p q =
+    then_eq (by_code p.1 q.1) (nat_cmp p.0 q.0)
+    ∙ ((λ k. code_is p.1 q.1 k && nat_eq p.0 q.0 k)
+    ∙ and_swap (bytes_eq p.1 q.1) (p.0 == q.0))
+
+-- ---- the tests of names
 
 -- names that are equal
 pub same_name : (p q : ℕ × List ℕ) → is_same p q ≡ true → p ≡ q

@@ -1,3 +1,5 @@
+pub mod Codes
+pub mod Coded
 pub mod Faults
 pub mod Texts
 pub mod Scopes

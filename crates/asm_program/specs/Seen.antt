@@ -1,7 +1,7 @@
 -- What the lists that linking makes are seen as.
 use Rattle.std.specs.Prelude.{ℕ, List, map}
-use Rattle.std.specs.Borrow.{Bor}
 use Rattle.link_model.specs.Program.{Item as Kind, OfFunction, OfVariable, OfExternal, Declaration}
+use Rattle.asm_program.specs.declared.codes.CodedName.{CodedName}
 use Rattle.asm_program.specs.declared.declared.Item.{Item}
 use Rattle.asm_program.specs.declared.declared.Item.TheVariants.{Function, Variable, External}
 use Rattle.asm_program.specs.declared.declared.Declared.{Declared}
@@ -14,5 +14,5 @@ item_seen (External x) = OfExternal x.now
 abbrev pub declaration_seen : Declared → Declaration
 declaration_seen d = record { unit = d.unit; item = item_seen d.item }
 
-abbrev pub named : List (Bor (List ℕ) × Declared) → List (List ℕ × Declaration)
-named entries = map (λ (e : Bor (List ℕ) × Declared). (e.0.now, declaration_seen e.1)) entries
+abbrev pub named : List (CodedName × Declared) → List (List ℕ × Declaration)
+named entries = map (λ (e : CodedName × Declared). (e.0.name.now, declaration_seen e.1)) entries

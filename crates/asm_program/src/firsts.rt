@@ -7,15 +7,16 @@ ghost use Rattle.std.specs.Str.{bytes_eq};
 ghost use Rattle.link_model.specs.Program.{name_of};
 ghost use Rattle.asm_program.specs.Seen.{declaration_seen};
 
+use crate::codes::CodedName;
 use crate::declared::Declared;
 use std::alloc::{AllocError, Global};
 use std::collections::BTreeMap;
 use std::marker::Model;
 
-/// Seen as the declarations by their names, in the order of the names.
+/// Seen as the declarations by their names, in the order of the names' codes.
 #[derive(Drop)]
 pub struct Firsts<'u> {
-    kept: BTreeMap<&'u [u8], Declared<'u>>,
+    kept: BTreeMap<CodedName<'u>, Declared<'u>>,
 }
 
 impl<'u> Model for Firsts<'u> {
@@ -40,7 +41,7 @@ impl<'u> Firsts<'u> {
     pub fn get(&self, name: &'u [u8]) -> Option<Declared<'u>>
         ensures { option_map declaration_seen result ≡ lookup (bytes_eq name.now) self.now }
     {
-        self.kept.get(&name).copied()
+        self.kept.get(&CodedName::new(name)).copied()
     }
 
     /// Adds a declaration whose name is not there.
@@ -50,8 +51,9 @@ impl<'u> Firsts<'u> {
             (cond (bytes_eq v (name_of (declaration_seen d.now))) (Some (declaration_seen d.now)) None)) }
     {
         let name = d.name().bytes();
-        if !self.kept.contains_key(&name) {
-            self.kept.insert(name, *d)?;
+        let coded = CodedName::new(name);
+        if !self.kept.contains_key(&coded) {
+            self.kept.insert(coded, *d)?;
         }
         Ok(())
     }

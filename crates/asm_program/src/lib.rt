@@ -1,6 +1,7 @@
 //! The tests of linking, and the keys that units make.
 #![tactic(auto)]
 
+pub mod codes;
 pub mod declared;
 pub mod entry;
 pub mod firsts;

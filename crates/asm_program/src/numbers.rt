@@ -1,20 +1,21 @@
 //! Numbers of names in scopes.
 
 ghost use Rattle.std.specs.Prelude.{◌≡◌, List, ℕ, [], cond, OnOk, IfOk, Some, None};
-ghost use Rattle.std.specs.Cmp.Lexicographic.{slice_cmp};
 ghost use Rattle.std.specs.Map.{lookup};
 ghost use Rattle.std.specs.Ordering.{nat_cmp, ordering_then};
+ghost use Rattle.asm_program.specs.Coded.{by_coded};
 ghost use Rattle.asm_program.specs.Scopes.{is_same};
 
+use crate::codes::CodedName;
 use std::alloc::{AllocError, Global};
 use std::cmp::Ordering;
 use std::collections::BTreeMap;
 use std::marker::Model;
 
-/// Seen as the numbers by scope and name, in the order of scopes and then of names.
+/// Seen as the numbers by scope and name, in the order of the names' codes, of names and then of scopes.
 #[derive(Drop)]
 pub struct Numbers<'u> {
-    kept: BTreeMap<(u64, &'u [u8]), u32>,
+    kept: BTreeMap<(CodedName<'u>, u64), u32>,
 }
 
 impl<'u> Model for Numbers<'u> {
@@ -38,7 +39,7 @@ impl<'u> Numbers<'u> {
     pub fn get(&self, scope: u64, name: &'u [u8]) -> Option<u32>
         ensures { result ≡ lookup (is_same (scope, name.now)) self.now }
     {
-        self.kept.get(&(scope, name)).copied()
+        self.kept.get(&(CodedName::new(name), scope)).copied()
     }
 
     /// Gives a name a number in place of the one that it has.
@@ -47,7 +48,7 @@ impl<'u> Numbers<'u> {
             ((q : ℕ × List ℕ) → lookup (is_same q) self.new ≡ cond (is_same q (scope, name.now)) (Some number)
             (lookup (is_same q) self.old)) }
     {
-        self.kept.insert((scope, name), number)?;
+        self.kept.insert((CodedName::new(name), scope), number)?;
         Ok(())
     }
 
@@ -56,10 +57,10 @@ impl<'u> Numbers<'u> {
         ensures { IfOk result (λ table. table ≡ self.now) }
     {
         let mut rows = Vec::new(alloc);
-        for ((scope, name), number) in self.kept.iter() {
+        for ((name, scope), number) in self.kept.iter() {
             rows.push(Row {
-                scope: *scope,
                 name: *name,
+                scope: *scope,
                 number: *number,
             })?;
         }
@@ -70,8 +71,8 @@ impl<'u> Numbers<'u> {
 /// The number of a name in a scope.
 #[derive(Clone, Copy)]
 pub struct Row<'u> {
+    name: CodedName<'u>,
     scope: u64,
-    name: &'u [u8],
     number: u32,
 }
 
@@ -92,17 +93,21 @@ impl<'u> Model for NumberTable<'u> {
     ghost invariant = { λ table. AreInOrder (map row_seen table.rows.items) };
 }
 
-fn compare(row: &Row<'_>, scope: u64, name: &[u8]) -> Ordering
-    ensures { result ≡ ordering_then (nat_cmp row.now.scope scope) (slice_cmp nat_cmp row.now.name.now name.now) }
+fn compare(row: &Row<'_>, name: &CodedName<'_>, scope: u64) -> Ordering
+    ensures { result ≡ ordering_then (by_coded row.now.name name.now) (nat_cmp row.now.scope scope) }
 {
-    row.scope.cmp(&scope).then(row.name.cmp(name))
+    row.name.cmp(name).then(row.scope.cmp(&scope))
 }
 
 impl<'u> NumberTable<'u> {
     pub fn get(&self, scope: u64, name: &[u8]) -> Option<u32>
         ensures { result ≡ lookup (is_same (scope, name.now)) self.now }
     {
-        match self.rows.binary_search_by(|row| compare(row, scope, name)) {
+        let coded = CodedName::new(name);
+        match self
+            .rows
+            .binary_search_by(|row| compare(row, &coded, scope))
+        {
             Ok(i) => Some(self.rows[i].number),
             Err(_) => None,
         }

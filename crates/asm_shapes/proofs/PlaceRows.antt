@@ -1,7 +1,9 @@
 -- Each operation stands in the instruction table under its own spelling.
 use Rattle.std.proofs.Common.{◌≡◌, [], ◌∷◌, map, refl}
 use Rattle.std.specs.Prelude.{codes}
-use Rattle.isa_model.specs.Instructions.{name_at, alu_imm_names, log_imm_names, alu_names, alu2_names, log_names, log2_names, rot_names, load_names, store_names, load_x_names, store_x_names, cmp_names, cmp_imm_names, cr_bit_names, move_names, bar_names}
+use Rattle.isa_model.specs.Instructions.{name_at, alu_imm_names, log_imm_names, alu_names, alu2_names, log_names, log2_names, rot_names}
+use Rattle.isa_model.specs.Instructions.{load_names, store_names, load_x_names, store_x_names, cmp_names, cmp_imm_names, cr_bit_names}
+use Rattle.isa_model.specs.Instructions.{move_names, bar_names}
 use Rattle.asm_syntax.specs.declared.operations.AluImmOp.TheVariants as AluImmOps
 use Rattle.asm_syntax.specs.declared.operations.LogImmOp.TheVariants as LogImmOps
 use Rattle.asm_syntax.specs.declared.operations.AluOp.TheVariants as AluOps
@@ -18,7 +20,9 @@ use Rattle.asm_syntax.specs.declared.operations.CmpImmOp.TheVariants as CmpImmOp
 use Rattle.asm_syntax.specs.declared.operations.CrBitOp.TheVariants as CrBitOps
 use Rattle.asm_syntax.specs.declared.operations.MoveOp.TheVariants as MoveOps
 use Rattle.asm_syntax.specs.declared.operations.BarOp.TheVariants as BarOps
-use Rattle.asm_syntax.specs.Places.{alu_imm_place, log_imm_place, alu_place, alu2_place, log_place, log2_place, rot_place, load_place, store_place, load_x_place, store_x_place, cmp_place, cmp_imm_place, cr_bit_place, move_place, bar_place}
+use Rattle.asm_syntax.specs.Places.{alu_imm_place, log_imm_place, alu_place, alu2_place, log_place, log2_place, rot_place, load_place}
+use Rattle.asm_syntax.specs.Places.{store_place, load_x_place, store_x_place, cmp_place, cmp_imm_place, cr_bit_place, move_place}
+use Rattle.asm_syntax.specs.Places.{bar_place}
 
 alu_imm_row : map (λ op. name_at alu_imm_names (alu_imm_place op)) (AluImmOps.Mulli ∷ AluImmOps.Subfic ∷ AluImmOps.Addic
     ∷ AluImmOps.Addi ∷ AluImmOps.Addis ∷ [])

@@ -1,5 +1,6 @@
 -- The tests of a function's instructions, from the front.
-use Rattle.std.proofs.Common.{◌≡◌, ℕ, ◌+◌, ◌<◌, List, [], ◌∷◌, length, get_or, take, drop, Bool, true, false, Option, Some, None, refl, ap, sym, ◌∙◌, arith}
+use Rattle.std.proofs.Common.{◌≡◌, ℕ, ◌+◌, ◌<◌, List, [], ◌∷◌, length, get_or, take, drop, Bool, true, false, Option, Some, None, refl, ap}
+use Rattle.std.proofs.Common.{sym, ◌∙◌, arith}
 use Rattle.std.specs.Prelude.{is_none, not, slice_get}
 use Rattle.std.specs.List.{enumerate_from, list_any}
 use Rattle.std.proofs.lemmas.List.{drop_more}
@@ -11,7 +12,8 @@ use Rattle.asm_syntax.specs.declared.instr.Instr.{Instr}
 use Rattle.asm_syntax.specs.declared.shape.ShapeError.{ShapeError}
 use Rattle.asm_syntax.specs.declared.shape.ShapeError.TheVariants.{Empty}
 use Rattle.asm_syntax.specs.Instructions.{has_words}
-use Rattle.asm_shapes.specs.Shapes.{HasInstrShape, HasShape, code_tests, function_tests, is_valid_code, place_tests, repeats_label, writes_reserved}
+use Rattle.asm_shapes.specs.Shapes.{HasInstrShape, HasShape, code_tests, function_tests, is_valid_code, place_tests, repeats_label}
+use Rattle.asm_shapes.specs.Shapes.{writes_reserved}
 
 -- a place that fails decides
 pub place_fails : {P F : Type 0} → (g : ℕ × P → List (Check F)) (xs : List P) (i : ℕ) (d : P) (f : F) → i < length xs

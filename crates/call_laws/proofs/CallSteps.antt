@@ -1,9 +1,10 @@
 -- The step laws at the place of an external, with its buffers, and at the stop point.
-use Rattle.std.proofs.Common.{◌≡◌, ℕ, zero, suc, ◌+◌, ◌%◌, ◌<◌, ◌≤◌, ◌⊎◌, inl, inr, Bool, true, false, not, ◌&&◌, nat_lt, nat_le, List, [], ◌∷◌, length, map, take, Option, Some, None, option_map, refl, sym, ap, ap₂, ◌∙◌, subst, arith, if◌then◌else◌}
+use Rattle.std.proofs.Common.{◌≡◌, ℕ, zero, suc, ◌+◌, ◌%◌, ◌<◌, ◌≤◌, ◌⊎◌, inl, inr, Bool, true, false, not, ◌&&◌, nat_lt, nat_le, List, []}
+use Rattle.std.proofs.Common.{◌∷◌, length, map, take, Option, Some, None, option_map, refl, sym, ap, ap₂, ◌∙◌, subst, arith, if◌then◌else◌}
 use Rattle.std.specs.Prelude.{◌==◌, find, is_some, unwrap_or, slice_index_or}
 use Rattle.std.specs.List.{list_all}
 use Rattle.std.specs.Option.{option_map_or}
-use Rattle.std.proofs.lemmas.Bool.{eqb-true, eq-eqb, ne_eqb, and_parts, leb-true, le-ltb, cases_eq}
+use Rattle.std.proofs.lemmas.Bool.{eqb-true, eq-eqb, ne_eqb, and_parts, leb-true, le-ltb, cases_eq, not-true}
 use Rattle.isa_model.specs.Word.{wrapped}
 use Rattle.image_model.specs.Image.{Segment}
 use Rattle.effect_model.specs.declared.Place.{Place}
@@ -43,7 +44,8 @@ use Rattle.asm_step.specs.LinkedCode.{sig_of, is_target}
 use Rattle.asm_step.specs.State as asm
 use Rattle.asm_step.specs.State.{State}
 use Rattle.asm_step.specs.Calls as calls
-use Rattle.asm_step.specs.Calls.{is_argument, are_bytes, bytes_in, has_room, is_room, fits_size, buffer_fits, read_at, fill_at, result_gprs, result_value}
+use Rattle.asm_step.specs.Calls.{is_argument, are_bytes, bytes_in, has_room, is_room, fits_size, buffer_fits, read_at, fill_at}
+use Rattle.asm_step.specs.Calls.{result_gprs, result_value}
 use Rattle.asm_step.specs.Steps.{finish}
 use Rattle.machine_model.specs.Worlds.{World, home, base, shown, place_at}
 use Rattle.machine_model.specs.Fits.{Fits}
@@ -65,14 +67,10 @@ are_free : List Place → Bool
 are_free [] = true
 are_free (p ∷ ps) = not (reserved p) && are_free ps
 
-not_true : (b : Bool) → not b ≡ true → b ≡ false
-not_true true h = cc
-not_true false h = refl
-
 free_all : (ps : List Place) → are_free ps ≡ true → AllReserved ps
 unfolding are_free
 free_all [] h = tt
-free_all (p ∷ ps) h = let q = and_parts (not (reserved p)) (are_free ps) h in (not_true (reserved p) q.0, free_all ps q.1)
+free_all (p ∷ ps) h = let q = and_parts (not (reserved p)) (are_free ps) h in (not-true (reserved p) q.0, free_all ps q.1)
 
 volatile_free : AllReserved volatile
 unfolding are_free
@@ -129,7 +127,16 @@ module _ (w : World) (ok : Fits w) (next : ℕ) (f : File Val) (g : File ℕ) (s
       found (Some k) e s =
           let p = and_parts (nat_le (o + n) (length k.cells)) (if fills then k.writable else are_bytes k o n) s in
           let r = home_of w live b k e in
-          record { block = b; offset = o; at = r.0; of = k; is = refl; lives = r.1; inside = leb-true (o + n) (length k.cells) p.0; leave = p.1 }
+          record {
+            block = b;
+            offset = o;
+            at = r.0;
+            of = k;
+            is = refl;
+            lives = r.1;
+            inside = leb-true (o + n) (length k.cells) p.0;
+            leave = p.1;
+          }
   room_of live fills n Undef y h = cc
   room_of live fills n (Int _) y h = cc
   room_of live fills n (Code _ _) y h = cc
@@ -153,14 +160,18 @@ module _ (w : World) (ok : Fits w) (next : ℕ) (f : File Val) (g : File ℕ) (s
         let hi = m.laid.high r.block r.at r.of r.lives in
         let i = r.inside in
         let e = room_at live mem m fills n v y r means in
-        each_law (is_mapped mem) n y (omega arith) (λ j s. let q : r.at + (r.offset + j) ≡ y + j = omega arith in subst (λ z. is_mapped mem z ≡ true) q (same_mapped w mem m.same (r.at + (r.offset + j)) ∙ m.laid.mapped r.block r.at (r.offset + j) r.of r.lives (omega arith)))
+        each_law (is_mapped mem) n y (omega arith) (λ j s. let q : r.at + (r.offset + j) ≡ y + j = omega arith in
+        subst (λ z. is_mapped mem z ≡ true) q (same_mapped w mem m.same (r.at + (r.offset + j))
+        ∙ m.laid.mapped r.block r.at (r.offset + j) r.of r.lives (omega arith)))
 
     writes_law : (n : ℕ) (v : Val) (y : ℕ) (r : Room live true n v y) → Means w live next v y → each_from (may_write mem) n y ≡ true
     writes_law n v y r means =
         let hi = m.laid.high r.block r.at r.of r.lives in
         let i = r.inside in
         let e = room_at live mem m true n v y r means in
-        each_law (may_write mem) n y (omega arith) (λ j s. let q : r.at + (r.offset + j) ≡ y + j = omega arith in subst (λ z. may_write mem z ≡ true) q (same_write w mem m.same (r.at + (r.offset + j)) ∙ m.laid.open_at r.block r.at (r.offset + j) r.of r.lives (omega arith) r.leave))
+        each_law (may_write mem) n y (omega arith) (λ j s. let q : r.at + (r.offset + j) ≡ y + j = omega arith in
+        subst (λ z. may_write mem z ≡ true) q (same_write w mem m.same (r.at + (r.offset + j))
+        ∙ m.laid.open_at r.block r.at (r.offset + j) r.of r.lives (omega arith) r.leave))
 
     -- bytes that are read
     read_bytes : (k : Live) (b a : ℕ) → LiveAt w live b a k → (n o y : ℕ) → y ≡ a + o → o + n ≤ length k.cells → are_bytes k o n ≡ true
@@ -169,7 +180,8 @@ module _ (w : World) (ok : Fits w) (next : ℕ) (f : File Val) (g : File ℕ) (s
     read_bytes k b a l (suc n) o y e h t =
         let p = and_parts (is_some (byte_in (cell k o))) (are_bytes k (o + 1) n) t in
         let hi = m.laid.high b a k l in
-        let c : CellMeans w live next (cell k o) (byte_of mem y) = subst (λ z. CellMeans w live next (cell k o) (byte_of mem z)) (sym e) (m.cells.at b a o k l (omega arith)) in
+        let c : CellMeans w live next (cell k o) (byte_of mem y) =
+        subst (λ z. CellMeans w live next (cell k o) (byte_of mem z)) (sym e) (m.cells.at b a o k l (omega arith)) in
         ap₂ (λ x xs. x ∷ xs) (one (cell k o) (byte_of mem y) p.0 c) (read_bytes k b a l n (o + 1) (after y) (omega arith) (omega arith) p.1)
       where
         one : (c : Cell) (x : ℕ) → is_some (byte_in c) ≡ true → CellMeans w live next c x → unwrap_or (byte_in c) 0 ≡ x
@@ -200,8 +212,10 @@ module _ (w : World) (ok : Fits w) (next : ℕ) (f : File Val) (g : File ℕ) (s
     no_fault : (fills : Bool) (y n : ℕ) → n ≤ 65536 → each_from (is_mapped mem) n y ≡ true
         → (fills ≡ true → each_from (may_write mem) n y ≡ true) → buffer_fault mem fills y n ≡ None
     no_fault fills y n h e1 e2 =
-        ap (λ q. if q then Some faults.Buffer else if not (each_from (is_mapped mem) n y) then Some Unmapped else if fills then (if each_from (may_write mem) n y then None else Some ReadOnly) else None) (le-ltb 65536 n h)
-        ∙ ap (λ q. if not q then Some Unmapped else if fills then (if each_from (may_write mem) n y then None else Some ReadOnly) else None) e1
+        ap (λ q. if q then Some faults.Buffer else if not (each_from (is_mapped mem) n y) then Some Unmapped else if fills then
+        (if each_from (may_write mem) n y then None else Some ReadOnly) else None) (le-ltb 65536 n h)
+        ∙ ap (λ q. if not q then Some Unmapped else if fills then
+        (if each_from (may_write mem) n y then None else Some ReadOnly) else None) e1
         ∙ by fills e2
       where
         by : (b : Bool) → (b ≡ true → each_from (may_write mem) n y ≡ true)
@@ -219,11 +233,22 @@ module _ (w : World) (ok : Fits w) (next : ℕ) (f : File Val) (g : File ℕ) (s
         sized : (b : Bool) → (n == 0) ≡ b → (if b then true else is_room live fills n v) ≡ true → BufferAgrees fills v (Int n) y n
         sized true e t =
             let z = eqb-true n 0 e in
-            subst (λ k. BufferAgrees fills v (Int k) y k) (sym z) (record { size = refl; sound = no_fault fills y 0 (omega arith) refl (λ q. refl); reads = λ q. empty_at v; room = inl refl })
+            subst (λ k. BufferAgrees fills v (Int k) y k) (sym z) (record {
+              size = refl;
+              sound = no_fault fills y 0 (omega arith) refl (λ q. refl);
+              reads = λ q. empty_at v;
+              room = inl refl;
+            })
         sized false e t = by fills (room_of live fills n v y t)
           where
             by : (b : Bool) → Room live b n v y → BufferAgrees b v (Int n) y n
-            by true r = record { size = refl; sound = no_fault true y n (leb-true n 65536 p.0) (maps_law true n v y r mv) (λ q. writes_law n v y r mv); reads = λ q. cc; room = inr r }
+            by true r = record {
+              size = refl;
+              sound = no_fault true y n (leb-true n 65536 p.0) (maps_law true n v y r mv) (λ q. writes_law n v y r mv);
+              reads =
+                  λ q. cc;
+              room = inr r;
+            }
             by false r = record {
               size = refl;
               sound = no_fault false y n (leb-true n 65536 p.0) (maps_law false n v y r mv) (λ q. cc);
@@ -248,18 +273,24 @@ module _ (w : World) (ok : Fits w) (next : ℕ) (f : File Val) (g : File ℕ) (s
       pub faults_law : (bs : List Buffer) → list_all (buffer_fits live f sig) bs ≡ true → buffers_fault mem g sig bs ≡ None
       faults_law [] t = refl
       faults_law (b ∷ bs) t =
-          let p = and_parts (fits_size live b.fills (calls.buffer_at f sig b) (calls.buffer_size f sig b)) (list_all (buffer_fits live f sig) bs) t in
+          let p = and_parts (fits_size live b.fills (calls.buffer_at f sig b) (calls.buffer_size f sig b))
+          (list_all (buffer_fits live f sig) bs) t in
           ap (λ o. or_else o (buffers_fault mem g sig bs)) (one_fits b p.0).sound ∙ faults_law bs p.1
 
       pub reads_law : (bs : List Buffer) → list_all (buffer_fits live f sig) bs ≡ true → calls.reads live f sig bs ≡ flat.reads mem g sig bs
       reads_law [] t = refl
       reads_law (b ∷ bs) t = at b.fills refl (reads_law bs p.1)
         where
-          p : (fits_size live b.fills (calls.buffer_at f sig b) (calls.buffer_size f sig b) ≡ true) × (list_all (buffer_fits live f sig) bs ≡ true)
-          p = and_parts (fits_size live b.fills (calls.buffer_at f sig b) (calls.buffer_size f sig b)) (list_all (buffer_fits live f sig) bs) t
+          p : (fits_size live b.fills (calls.buffer_at f sig b) (calls.buffer_size f sig b) ≡ true)
+              × (list_all (buffer_fits live f sig) bs ≡ true)
+          p = and_parts (fits_size live b.fills (calls.buffer_at f sig b) (calls.buffer_size f sig b))
+              (list_all (buffer_fits live f sig) bs) t
 
           at : (q : Bool) → b.fills ≡ q → calls.reads live f sig bs ≡ flat.reads mem g sig bs
-              → (if q then calls.reads live f sig bs else read_at live (calls.buffer_at f sig b) (calls.buffer_size f sig b) ∷ calls.reads live f sig bs) ≡ (if q then flat.reads mem g sig bs else bytes_at mem (flat.buffer_at g sig b) (flat.buffer_size g sig b) ∷ flat.reads mem g sig bs)
+              → (if q then calls.reads live f sig bs else read_at live (calls.buffer_at f sig b)
+              (calls.buffer_size f sig b) ∷ calls.reads live f sig bs)
+              ≡ (if q then flat.reads mem g sig bs else bytes_at mem (flat.buffer_at g sig b)
+              (flat.buffer_size g sig b) ∷ flat.reads mem g sig bs)
           at true e r = r
           at false e r = ap₂ (λ x xs. x ∷ xs) ((one_fits b p.0).reads e) r
 
@@ -306,13 +337,28 @@ module _ (w : World) (ok : Fits w) (next : ℕ) (f : File Val) (g : File ℕ) (s
     where
       at : (c ≡ b) ⊎ (c ≡ b → ⊥) → Still (update b h live) c a k
       at (inl e) =
-          subst (λ z. Still (update z h live) c a k) e (record { of = h k; lives = lives_on w next live c a k h m l; size = m.size k; writable = m.writable k })
-      at (inr n) = record { of = k; lives = record { home_is = home_update b h m w live c ∙ l.home_is; block = find_other b h m live c n ∙ l.block }; size = refl; writable = refl }
+          subst (λ z. Still (update z h live) c a k) e (record {
+            of = h k;
+            lives = lives_on w next live c a k h m l;
+            size = m.size k;
+            writable = m.writable k;
+          })
+      at (inr n) = record {
+        of = k;
+        lives = record {
+          home_is = home_update b h m w live c ∙ l.home_is;
+          block = find_other b h m live c n
+              ∙ l.block;
+        };
+        size = refl;
+        writable = refl;
+      }
 
   -- room for each buffer that is filled
   abbrev pub RoomFor : List Live → Buffer → Type 0
   RoomFor live b =
-      b.fills ≡ true → (calls.buffer_size f sig b ≡ Int (flat.buffer_size g sig b)) × ((flat.buffer_size g sig b ≡ 0) ⊎ Room live true (flat.buffer_size g sig b) (calls.buffer_at f sig b) (flat.buffer_at g sig b))
+      b.fills ≡ true → (calls.buffer_size f sig b ≡ Int (flat.buffer_size g sig b))
+      × ((flat.buffer_size g sig b ≡ 0) ⊎ Room live true (flat.buffer_size g sig b) (calls.buffer_at f sig b) (flat.buffer_at g sig b))
 
   abbrev pub Rooms : List Live → List Buffer → Type 0
   Rooms live [] = Unit {0}
@@ -322,20 +368,37 @@ module _ (w : World) (ok : Fits w) (next : ℕ) (f : File Val) (g : File ℕ) (s
       → list_all (buffer_fits live f sig) bs ≡ true → Rooms live bs
   rooms_law live mem m h [] t = tt
   rooms_law live mem m h (b ∷ bs) t =
-      let p = and_parts (fits_size live b.fills (calls.buffer_at f sig b) (calls.buffer_size f sig b)) (list_all (buffer_fits live f sig) bs) t in
-      let o = one_fits live mem m h b p.0 in
-      ((λ e. (o.size, subst (λ z. (flat.buffer_size g sig b ≡ 0) ⊎ Room live z (flat.buffer_size g sig b) (calls.buffer_at f sig b) (flat.buffer_at g sig b)) e o.room)), rooms_law live mem m h bs p.1)
+      let p = and_parts (fits_size live b.fills (calls.buffer_at f sig b) (calls.buffer_size f sig b))
+      (list_all (buffer_fits live f sig) bs) t in
+      let o = one_fits live mem m h b p.0 in (
+        (λ e. (
+          o.size,
+          subst (λ z. (flat.buffer_size g sig b ≡ 0)
+              ⊎ Room live z (flat.buffer_size g sig b) (calls.buffer_at f sig b) (flat.buffer_at g sig b)) e o.room,
+        )),
+        rooms_law live mem m h bs p.1,
+      )
 
   room_on : (live : List Live) (c : ℕ) (h : Live → Live) → Mild h → (b : Buffer) → RoomFor live b → RoomFor (update c h live) b
   room_on live c h m b r e = let q = r e in (q.0, at q.1)
     where
       at : (flat.buffer_size g sig b ≡ 0) ⊎ Room live true (flat.buffer_size g sig b) (calls.buffer_at f sig b) (flat.buffer_at g sig b)
-          → (flat.buffer_size g sig b ≡ 0) ⊎ Room (update c h live) true (flat.buffer_size g sig b) (calls.buffer_at f sig b) (flat.buffer_at g sig b)
+          → (flat.buffer_size g sig b ≡ 0) ⊎ Room (update c h live) true (flat.buffer_size g sig b) (calls.buffer_at f sig b)
+          (flat.buffer_at g sig b)
       at (inl z) = inl z
       at (inr r) =
           let s = still live c h m r.block r.at r.of r.lives in
           let i = r.inside in let z = s.size in
-          inr (record { block = r.block; offset = r.offset; at = r.at; of = s.of; is = r.is; lives = s.lives; inside = omega arith; leave = s.writable ∙ r.leave })
+          inr (record {
+            block = r.block;
+            offset = r.offset;
+            at = r.at;
+            of = s.of;
+            is = r.is;
+            lives = s.lives;
+            inside = omega arith;
+            leave = s.writable ∙ r.leave;
+          })
 
   rooms_on : (live : List Live) (c : ℕ) (h : Live → Live) → Mild h → (bs : List Buffer) → Rooms live bs → Rooms (update c h live) bs
   rooms_on live c h m [] r = tt
@@ -352,8 +415,11 @@ module _ (w : World) (ok : Fits w) (next : ℕ) (f : File Val) (g : File ℕ) (s
 
   fill_one : (live : List Live) (mem : List Segment) (b : Buffer) (xs : List ℕ) (bs : List Buffer) → MemoryAgrees w live next mem
       → Means w live next (calls.buffer_at f sig b) (flat.buffer_at g sig b) → RoomFor live b → b.fills ≡ true → Rooms live bs
-      → Filled live (fill_at live (calls.buffer_at f sig b) (calls.buffer_size f sig b) xs) (set_bytes mem (flat.buffer_at g sig b) (take (flat.buffer_size g sig b) xs)) × Rooms (fill_at live (calls.buffer_at f sig b) (calls.buffer_size f sig b) xs) bs
-  fill_one live mem b xs bs m mv r e rs = let q = r e in subst (λ u. Filled live (fill_at live v u xs) (set_bytes mem y (take n xs)) × Rooms (fill_at live v u xs) bs) (sym q.0) (at q.1)
+      → Filled live (fill_at live (calls.buffer_at f sig b) (calls.buffer_size f sig b) xs)
+      (set_bytes mem (flat.buffer_at g sig b) (take (flat.buffer_size g sig b) xs))
+      × Rooms (fill_at live (calls.buffer_at f sig b) (calls.buffer_size f sig b) xs) bs
+  fill_one live mem b xs bs m mv r e rs = let q = r e in
+      subst (λ u. Filled live (fill_at live v u xs) (set_bytes mem y (take n xs)) × Rooms (fill_at live v u xs) bs) (sym q.0) (at q.1)
     where
       n : ℕ
       n = flat.buffer_size g sig b
@@ -366,7 +432,8 @@ module _ (w : World) (ok : Fits w) (next : ℕ) (f : File Val) (g : File ℕ) (s
 
       none : (z : Val) → Filled live (fill_at live z (Int 0) xs) mem × Rooms (fill_at live z (Int 0) xs) bs
       none (Ptr c o) =
-          subst (λ l. Filled live l mem × Rooms l bs) (sym (update_id c live)) (record { agrees = m; homes = λ d. refl; top_stays = refl }, rs)
+          subst (λ l. Filled live l mem × Rooms l bs) (sym (update_id c live))
+          (record { agrees = m; homes = λ d. refl; top_stays = refl }, rs)
       none Undef = (record { agrees = m; homes = λ d. refl; top_stays = refl }, rs)
       none (Int _) = (record { agrees = m; homes = λ d. refl; top_stays = refl }, rs)
       none (Code _ _) = (record { agrees = m; homes = λ d. refl; top_stays = refl }, rs)
@@ -377,7 +444,8 @@ module _ (w : World) (ok : Fits w) (next : ℕ) (f : File Val) (g : File ℕ) (s
       at : (n ≡ 0) ⊎ Room live true n v y
           → Filled live (fill_at live v (Int n) xs) (set_bytes mem y (take n xs)) × Rooms (fill_at live v (Int n) xs) bs
       at (inl z) =
-          subst (λ k. Filled live (fill_at live v (Int k) xs) (set_bytes mem y (take k xs)) × Rooms (fill_at live v (Int k) xs) bs) (sym z) (none v)
+          subst (λ k. Filled live (fill_at live v (Int k) xs) (set_bytes mem y (take k xs)) × Rooms (fill_at live v (Int k) xs) bs)
+          (sym z) (none v)
       at (inr p) =
           let cs = map cells.Byte (take n xs) in
           let fn = λ (k : Live). set_cells k p.offset cs in
@@ -385,10 +453,13 @@ module _ (w : World) (ok : Fits w) (next : ℕ) (f : File Val) (g : File ℕ) (s
           let short = take_short n xs in
           let count = length-bytes (take n xs) in
           let i = p.inside in
-          let a = cells_law w next cs (take n xs) live mem p.block p.at p.offset p.of p.lives (omega arith) p.leave (bytes_mean live (take n xs)) m in
-          subst (λ z. Filled live (fill_at live z (Int n) xs) (set_bytes mem y (take n xs)) × Rooms (fill_at live z (Int n) xs) bs) (sym p.is) (
+          let a = cells_law w next cs (take n xs) live mem p.block p.at p.offset p.of p.lives (omega arith) p.leave
+          (bytes_mean live (take n xs)) m in
+          subst (λ z. Filled live (fill_at live z (Int n) xs) (set_bytes mem y (take n xs)) × Rooms (fill_at live z (Int n) xs) bs)
+          (sym p.is) (
             record {
-              agrees = subst (λ z. MemoryAgrees w (update p.block fn live) next (set_bytes mem z (take n xs))) (sym (room_at live mem m true n v y p mv)) a;
+              agrees = subst (λ z. MemoryAgrees w (update p.block fn live) next (set_bytes mem z (take n xs)))
+                  (sym (room_at live mem m true n v y p mv)) a;
               homes = home_update p.block fn mild w live;
               top_stays = top_update p.block fn mild live;
             },
@@ -402,13 +473,18 @@ module _ (w : World) (ok : Fits w) (next : ℕ) (f : File Val) (g : File ℕ) (s
   fills_law (b ∷ bs) fills live mem m mv rs = at b.fills refl (λ fs l n a v q. fills_law bs fs l n a v q)
     where
       at : (q : Bool) → b.fills ≡ q
-          → ((fs : List (List ℕ)) (l : List Live) (n : List Segment) → MemoryAgrees w l next n → ((c : Buffer) → Means w l next (calls.buffer_at f sig c) (flat.buffer_at g sig c)) → Rooms l bs → Filled l (calls.filled l f sig bs fs) (flat.filled n g sig bs fs))
-          → Filled live (if q then calls.filled (fill_at live (calls.buffer_at f sig b) (calls.buffer_size f sig b) (first_fill fills)) f sig bs (rest_fills fills) else calls.filled live f sig bs fills)
-          (if q then flat.filled (set_bytes mem (flat.buffer_at g sig b) (take (flat.buffer_size g sig b) (first_fill fills))) g sig bs (rest_fills fills) else flat.filled mem g sig bs fills)
+          → ((fs : List (List ℕ)) (l : List Live) (n : List Segment) → MemoryAgrees w l next n
+          → ((c : Buffer) → Means w l next (calls.buffer_at f sig c) (flat.buffer_at g sig c)) → Rooms l bs
+          → Filled l (calls.filled l f sig bs fs) (flat.filled n g sig bs fs))
+          → Filled live (if q then calls.filled (fill_at live (calls.buffer_at f sig b) (calls.buffer_size f sig b)
+          (first_fill fills)) f sig bs (rest_fills fills) else calls.filled live f sig bs fills)
+          (if q then flat.filled (set_bytes mem (flat.buffer_at g sig b) (take (flat.buffer_size g sig b) (first_fill fills))) g sig bs
+          (rest_fills fills) else flat.filled mem g sig bs fills)
       at false e go = go fills live mem m mv rs.1
       at true e go =
           let o = fill_one live mem b (first_fill fills) bs m (mv b) rs.0 e rs.1 in
-          let keep = same_homes w live (fill_at live (calls.buffer_at f sig b) (calls.buffer_size f sig b) (first_fill fills)) next o.0.homes in
+          let keep = same_homes w live (fill_at live (calls.buffer_at f sig b) (calls.buffer_size f sig b)
+          (first_fill fills)) next o.0.homes in
           let r = go (rest_fills fills) _ _ o.0.agrees (λ c. means_keep w live next _ next keep _ _ (mv c)) o.1 in
           record { agrees = r.agrees; homes = λ d. r.homes d ∙ o.0.homes d; top_stays = r.top_stays ∙ o.0.top_stays }
 
@@ -448,7 +524,8 @@ module _ (w : World) (ok : Fits w) (s : State) (t : FlatState) (r : Related w s 
         let q : t.pc ≡ wrapped (w.address x + o) = m.shows in
         let e : t.pc ≡ w.address x = omega arith in
         ap (λ z. if z == w.layout.stop then ends.Ended (get 0 t.file (Gpr 3)) else at_external t p (w.outside z)) e
-        ∙ ap (λ q. if q then ends.Ended (get 0 t.file (Gpr 3)) else at_external t p (w.outside (w.address x))) (ne_eqb (w.address x) w.layout.stop c.not_stop)
+        ∙ ap (λ q. if q then ends.Ended (get 0 t.file (Gpr 3)) else at_external t p (w.outside (w.address x)))
+        (ne_eqb (w.address x) w.layout.stop c.not_stop)
         ∙ ap (at_external t p) c.called
 
     result_means : (q : Reply) (p : Place) → Means w s.live s.next (result_value sig.result q p) (reply_word q p)
@@ -480,14 +557,17 @@ module _ (w : World) (ok : Fits w) (s : State) (t : FlatState) (r : Related w s 
     returned_law q h2 h3 =
         let m0 = memory_of w s t r in
         let rooms = rooms_law w ok s.next s.file t.file sig s.live t.mem m0 r.files sig.buffers h3 in
-        let fl = fills_law w ok s.next s.file t.file sig sig.buffers q.fills s.live t.mem m0 (λ b. get_law w s.live s.next s.file t.file r.files (Gpr (register_at sig b.arg))) rooms in
+        let fl = fills_law w ok s.next s.file t.file sig sig.buffers q.fills s.live t.mem m0
+        (λ b. get_law w s.live s.next s.file t.file r.files (Gpr (register_at sig b.arg))) rooms in
         let live1 = calls.filled s.live s.file sig sig.buffers q.fills in
         let tl = top_lives w live1 fl.agrees.frame in
         let mild = set_cells_mild empty_word 4 in
         let g = forgets_law w s.next _ empty_word live1 (top live1) tl.0 4 tl.1.0 tl.1.1 (refl, (refl, (refl, (refl, tt)))) fl.agrees in
         let live2 = forget live1 in
-        let keep = same_homes w s.live live2 s.next (λ d. home_update (top live1) (λ k. set_cells k 4 empty_word) mild w live1 d ∙ fl.homes d) in
-        let f1 = put_each_law w s.live s.next (result_value sig.result q) (reply_word q) volatile volatile_free (result_means q) s.file t.file r.files in
+        let keep = same_homes w s.live live2 s.next (λ d. home_update (top live1) (λ k. set_cells k 4 empty_word) mild w live1 d
+        ∙ fl.homes d) in
+        let f1 = put_each_law w s.live s.next (result_value sig.result q) (reply_word q) volatile volatile_free
+        (result_means q) s.file t.file r.files in
         record {
           laid = g.laid;
           frame = g.frame;
@@ -524,12 +604,15 @@ module _ (w : World) (ok : Fits w) (s : State) (t : FlatState) (r : Related w s 
                 )
 
         test2 : (b : Bool) → list_all (is_argument s.live) (arguments Undef s.file sig) ≡ true → is_target w.program s.file.lr ≡ b
-            → Leads w s t p (if not b then asm.Undefined whys.Target else if not (list_all (buffer_fits s.live s.file sig) sig.buffers) then asm.Undefined whys.Buffer else calls.answered x s sig p)
+            → Leads w s t p (if not b then asm.Undefined whys.Target else if not
+            (list_all (buffer_fits s.live s.file sig) sig.buffers) then asm.Undefined whys.Buffer else calls.answered x s sig p)
         test2 false h1 h2 = tt
         test2 true h1 h2 = test3 (list_all (buffer_fits s.live s.file sig) sig.buffers) h1 h2 refl
 
         test1 : (b : Bool) → list_all (is_argument s.live) (arguments Undef s.file sig) ≡ b
-            → Leads w s t p (if not b then asm.Undefined whys.Argument else if not (is_target w.program s.file.lr) then asm.Undefined whys.Target else if not (list_all (buffer_fits s.live s.file sig) sig.buffers) then asm.Undefined whys.Buffer else calls.answered x s sig p)
+            → Leads w s t p (if not b then asm.Undefined whys.Argument else if not
+            (is_target w.program s.file.lr) then asm.Undefined whys.Target else if not
+            (list_all (buffer_fits s.live s.file sig) sig.buffers) then asm.Undefined whys.Buffer else calls.answered x s sig p)
         test1 false h1 = tt
         test1 true h1 = test2 (is_target w.program s.file.lr) h1 refl
 

@@ -16,7 +16,9 @@ use Rattle.asm_syntax.specs.declared.instr.Plain.{Plain}
 use Rattle.asm_syntax.specs.declared.instr.Plain.TheVariants as plains
 use Rattle.asm_syntax.specs.declared.instr.Instr.{Instr}
 use Rattle.asm_syntax.specs.declared.instr.Instr.TheVariants as instrs
-use Rattle.asm_syntax.specs.Places.{alu_imm_place, log_imm_place, alu_place, alu2_place, log_place, log2_place, rot_place, load_place, store_place, load_x_place, store_x_place, cmp_place, cmp_imm_place, cr_bit_place, move_place, bar_place}
+use Rattle.asm_syntax.specs.Places.{alu_imm_place, log_imm_place, alu_place, alu2_place, log_place, log2_place, rot_place, load_place}
+use Rattle.asm_syntax.specs.Places.{store_place, load_x_place, store_x_place, cmp_place, cmp_imm_place, cr_bit_place, move_place}
+use Rattle.asm_syntax.specs.Places.{bar_place}
 use Rattle.code_model.specs.declared.gap.Gap.{Gap}
 use Rattle.code_model.specs.declared.gap.Gap.TheVariants.{Closed, Half, SmallData, Near, Far, Free}
 use Rattle.code_model.specs.Fields.{base_field, half_field, short, address_plus}

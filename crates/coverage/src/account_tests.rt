@@ -9,17 +9,20 @@ use layout_file::read_layout;
 use link_model::owner::Owner;
 use std::alloc::{AllocError, Global};
 use std::test::Fail;
+use test_images::layouts::layout_of;
 use test_images::lines::image_of;
 use word_ops::range::Range;
 
 // Two areas of code beside each other, one of code that ends within a word, one of constants, one of data, and two foreign ranges
 // beside each other.
-static LAYOUT: &str =
-    r#"{"valex":"layout","version":1,"entry":"main","stop":"0x10000000","stack":["0x20000000","0x20010000"],"r13":0,"r2":0,"areas":[{"name":"text","range":["0x10010000","0x10010100"],"kind":"code"},{"name":"more","range":["0x10010100","0x10010110"],"kind":"code"},{"name":"odd","range":["0x10010200","0x10010206"],"kind":"code"},{"name":"rodata","range":["0x10018000","0x10018100"],"kind":"const"},{"name":"data","range":["0x10020000","0x10020100"],"kind":"data"}],"foreign":[["0x10030000","0x10030010"],["0x10030010","0x10030018"]],"pins":[]}"#;
-
-fn layout_text() -> &'static str {
-    LAYOUT
-}
+static LAYOUT: &str = "area code 10010000 10010100
+area code 10010100 10010110
+area code 10010200 10010206
+area const 10018000 10018100
+area data 10020000 10020100
+foreign 10030000 10030010
+foreign 10030010 10030018
+";
 
 // The claims, as `NAME LO HI` of functions, `NAME OFFSET LO HI` of tables and `LO HI` of variables, with the segments; and what is
 // told: the claim that meets one before it, the lowest stray address and its byte, or the account: functions and their bytes, tables
@@ -243,9 +246,8 @@ fn answer(alloc: Global, layout: &Layout, claims: &str, segments: &str) -> Optio
 #[test]
 fn accounts(rt: HostRuntime) -> Result<(), Fail> {
     let alloc = rt.alloc();
-    let layout = read_layout(alloc, layout_text().as_bytes())
-        .ok()
-        .ok_or("a layout")?;
+    let text = layout_of(alloc, LAYOUT).ok_or("the text of a layout")?;
+    let layout = read_layout(alloc, text.as_bytes()).ok().ok_or("a layout")?;
     for (claims, segments, want) in rows() {
         let answer = answer(alloc, &layout, *claims, *segments).ok_or("a row")?;
         assert_eq!(rt; answer.as_str(), *want, "{claims} in {segments}");

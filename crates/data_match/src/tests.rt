@@ -3,73 +3,29 @@ use crate::fault::DataFault;
 use crate::matching::match_variable;
 use asm_syntax::name::Name;
 use asm_syntax::unit::{ByteList, Init, InitList, Variable};
-use byteorder::{BigEndian, ByteOrder};
 use elf_view::{ElfView, LoadedSegments};
 use layout_file::layout::Layout;
 use layout_file::read_layout;
 use name_addresses::NameAddresses;
 use std::alloc::{AllocError, Global};
 use std::test::Fail;
+use test_images::layouts::layout_of;
+use test_images::lines::image_of;
 use word_ops::range::Range;
 
-static LAYOUT: &str =
-    r#"{"valex":"layout","version":1,"entry":"main","stop":"0x10000000","stack":["0x20000000","0x20010000"],"r13":0,"r2":0,"areas":[{"name":"text","range":["0x10010000","0x10011000"],"kind":"code"},{"name":"rodata","range":["0x10018000","0x10018800"],"kind":"const"},{"name":"more","range":["0x10018800","0x10019000"],"kind":"const"},{"name":"data","range":["0x10020000","0x10020018"],"kind":"data"}],"foreign":[],"pins":[]}"#;
+static LAYOUT: &str = "area code 10010000 10011000
+area const 10018000 10018800
+area const 10018800 10019000
+area data 10020000 10020018
+";
 
-fn layout_text() -> &'static str {
-    LAYOUT
-}
-
-// The words of the file that are not zero, each with its offset. System V gABI, "ELF Header" to "Sections". Twelve bytes are read-only
-// at 10018000; at 10020000 are four and a zero fill up to 10020010, writable, and behind these sixteen more of zero fill, read-only.
-static WORDS: [(u16, u32); 34] = [
-    (0, 0x7f45_4c46),
-    (4, 0x0102_0100),
-    (16, 0x0002_0014),
-    (20, 1),
-    (24, 0x1001_0000),
-    (28, 52),
-    (32, 148),
-    (40, 0x0034_0020),
-    (44, 0x0003_0028),
-    (48, 0x0002_0000),
-    (52, 1),
-    (56, 228),
-    (60, 0x1001_8000),
-    (68, 12),
-    (72, 12),
-    (76, 4),
-    (84, 1),
-    (88, 240),
-    (92, 0x1002_0000),
-    (100, 4),
-    (104, 16),
-    (108, 6),
-    (116, 1),
-    (124, 0x1002_0010),
-    (136, 16),
-    (140, 4),
-    (152, 2),
-    (172, 1),
-    (184, 16),
-    (192, 3),
-    (228, 0x0123_4567),
-    (232, 0x89ab_cdef),
-    (236, 0x1002_0002),
-    (240, 0xdead_beef),
-];
-
-fn words() -> &'static [(u16, u32)] {
-    &WORDS
-}
-
-fn fill(file: &mut [u8]) {
-    for (at, word) in words() {
-        let at = usize::from(*at);
-        if at + 4 <= file.len() {
-            BigEndian::write_u32(&mut file[at..], *word);
-        }
-    }
-}
+// Twelve bytes are read-only at 10018000; at 10020000 are four and a zero fill up to 10020010, writable, and behind these sixteen more of
+// zero fill, read-only.
+static IMAGE: &str = "entry 10010000
+segment 10018000 4 c 01234567 89abcdef 10020002
+segment 10020000 6 10 deadbeef
+segment 10020010 4 10
+";
 
 #[derive(Clone, Copy)]
 enum Item {
@@ -243,13 +199,11 @@ fn answer(
 #[test]
 fn variables(rt: HostRuntime) -> Result<(), Fail> {
     let alloc = rt.alloc();
-    let mut file = [0; 244];
-    fill(&mut file);
+    let file = image_of(alloc, IMAGE).ok_or("an image")?;
     let view = ElfView::read(&file).ok().ok_or("an image")?;
     let segments = LoadedSegments::read(alloc, &view)?;
-    let layout = read_layout(alloc, layout_text().as_bytes())
-        .ok()
-        .ok_or("a layout")?;
+    let text = layout_of(alloc, LAYOUT).ok_or("the text of a layout")?;
+    let layout = read_layout(alloc, text.as_bytes()).ok().ok_or("a layout")?;
     for row in rows() {
         let text = answer(alloc, *row, &segments, &layout)?;
         assert_eq!(rt; text.as_str(), row.4);

@@ -27,7 +27,8 @@ use Rattle.asm_syntax.specs.declared.unit.Unit.{Unit}
 use Rattle.dump_reader.specs.Versions.{has_buffers}
 use Rattle.dump_model.specs.Trees.{unsigned_data, signed_data}
 use Rattle.dump_model.specs.InstructionTree.{const_data, plain_items, jump_items, instr_data}
-use Rattle.dump_model.specs.UnitTree.{function_data, init_data, variable_data, width_data, size_data, buffer_data, optional_data, external_data, unit_data}
+use Rattle.dump_model.specs.UnitTree.{function_data, init_data, variable_data, width_data, size_data, buffer_data, optional_data}
+use Rattle.dump_model.specs.UnitTree.{external_data, unit_data}
 
 -- no float, and at most so deep
 abbrev IsPlain : ℕ → Data → Type 0

@@ -16,7 +16,9 @@ use Rattle.mnemonics.specs.declared.form.JumpForm.TheVariants as JumpForms
 use Rattle.mnemonics.specs.declared.form.PseudoForm.TheVariants as PseudoForms
 use Rattle.json_tree.specs.Arrays.{items, counted, nth, chosen}
 use Rattle.dump_reader.specs.Operands.{register}
-use Rattle.dump_reader.specs.Instructions.{instr, operands, alu_imm, log_imm, alu, alu2, log, log2, srawi, rot, load, store, load_x, store_x, cmp, cmp_imm, cr_bit, move_special, bar, jump, jump_of, pseudo, imm, btbl, mfcr_bit, two_registers, three_registers, one_number, one_symbol, bit_and_label}
+use Rattle.dump_reader.specs.Instructions.{instr, operands, alu_imm, log_imm, alu, alu2, log, log2, srawi, rot, load, store, load_x}
+use Rattle.dump_reader.specs.Instructions.{store_x, cmp, cmp_imm, cr_bit, move_special, bar, jump, jump_of, pseudo, imm, btbl, mfcr_bit}
+use Rattle.dump_reader.specs.Instructions.{two_registers, three_registers, one_number, one_symbol, bit_and_label}
 use Rattle.dump_model.specs.Trees.{unsigned_data, array_of}
 use Rattle.dump_model.specs.InstructionTree.{plain_items, jump_items, instr_data}
 use Rattle.dump_model.specs.Types.{are_registers, is_u32, is_typed_const, is_typed_jump, is_typed_plain, is_typed_instr}

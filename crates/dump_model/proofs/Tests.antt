@@ -19,7 +19,8 @@ use Rattle.limits.specs.declared.TheConstants.{MOST_VARIABLE_BYTES, MOST_BUFFERS
 use Rattle.asm_syntax.specs.Instructions.{has_words}
 use Rattle.asm_shapes.specs.Operands.{instr_in_range}
 use Rattle.asm_shapes.specs.Shapes.{instr_tests, place_tests, code_tests, function_tests, is_valid_code}
-use Rattle.asm_shapes.specs.Signatures.{first_register, registers_of, argument_registers, is_argument_register, argument_tests, buffer_test, buffer_tests, buffer_fits, sig_tests, is_valid_sig}
+use Rattle.asm_shapes.specs.Signatures.{first_register, registers_of, argument_registers, is_argument_register, argument_tests}
+use Rattle.asm_shapes.specs.Signatures.{buffer_test, buffer_tests, buffer_fits, sig_tests, is_valid_sig}
 use Rattle.asm_syntax.specs.Sizes.{init_size, variable_size, limited_size}
 use Rattle.dump_reader.specs.declared.external.TheConstants.{MOST_INDEXED}
 use Rattle.dump_model.specs.Types.{is_byte}

@@ -1,5 +1,6 @@
 -- Units that are written are read back.
-use Rattle.std.proofs.Common.{◌≡◌, ℕ, ◌^◌, ◌≤◌, Bool, true, false, List, [], ◌∷◌, ◌++◌, length, map, Option, Some, None, Result, Ok, refl, sym, ap, ◌∙◌, arith}
+use Rattle.std.proofs.Common.{◌≡◌, ℕ, ◌^◌, ◌≤◌, Bool, true, false, List, [], ◌∷◌, ◌++◌, length, map, Option, Some, None, Result, Ok, refl}
+use Rattle.std.proofs.Common.{sym, ap, ◌∙◌, arith}
 use Rattle.std.specs.Prelude.{◌&&◌, ◌||◌, not, ◌==◌, nat_le, nat_lt, is_some, if◌then◌else◌}
 use Rattle.std.specs.List.{list_all, list_any}
 use Rattle.std.proofs.lemmas.Bool.{and_parts, leb-true}
@@ -21,13 +22,15 @@ use Rattle.asm_syntax.specs.declared.unit.Buffer.{Buffer}
 use Rattle.asm_syntax.specs.declared.unit.Sig.{Sig}
 use Rattle.asm_syntax.specs.declared.unit.External.{External}
 use Rattle.asm_syntax.specs.declared.unit.Unit.{Unit}
-use Rattle.limits.specs.declared.TheConstants.{MOST_FUNCTIONS, MOST_VARIABLES, MOST_EXTERNALS, MOST_INSTRUCTIONS, MOST_INIT_ITEMS, MOST_VARIABLE_BYTES, MOST_BUFFERS, MOST_BUFFER_BYTES}
+use Rattle.limits.specs.declared.TheConstants.{MOST_FUNCTIONS, MOST_VARIABLES, MOST_EXTERNALS, MOST_INSTRUCTIONS, MOST_INIT_ITEMS}
+use Rattle.limits.specs.declared.TheConstants.{MOST_VARIABLE_BYTES, MOST_BUFFERS, MOST_BUFFER_BYTES}
 use Rattle.asm_syntax.specs.Names.{is_name}
 use Rattle.asm_shapes.specs.Operands.{instr_in_range}
 use Rattle.asm_shapes.specs.Shapes.{function_tests, is_valid_code}
 use Rattle.asm_shapes.specs.Signatures.{argument_tests, buffer_tests, is_word_argument, size_fits, buffer_fits, is_valid_sig}
 use Rattle.asm_syntax.specs.Sizes.{init_size, limited_size}
-use Rattle.asm_shapes.specs.Units.{function_name, variable_name, external_name, unit_names, table_fits, function_fits, is_alignment, variable_fits, external_fits, counts_fit, unit_fits, are_distinct, are_apart}
+use Rattle.asm_shapes.specs.Units.{function_name, variable_name, external_name, unit_names, table_fits, function_fits, is_alignment}
+use Rattle.asm_shapes.specs.Units.{variable_fits, external_fits, counts_fit, unit_fits, are_distinct, are_apart}
 use Rattle.asm_shapes.proofs.NamesLemmas.{distinct_parts}
 use Rattle.json_tree.specs.Reading.{field, or_null, stated, word_of}
 use Rattle.json_tree.specs.declared.fault.Fault.{Fault}
@@ -40,11 +43,15 @@ use Rattle.dump_reader.specs.Instructions.{instr}
 use Rattle.dump_reader.specs.declared.profile.TheConstants.{NEWEST}
 use Rattle.dump_reader.specs.Digits.{digits}
 use Rattle.dump_reader.specs.Versions.{has_buffers}
-use Rattle.dump_reader.specs.UnitTree.{function, int8, int16, int32, bytes, space, addr, init_operands, init, contents, alignment, variable, widths, results, arguments, buffer_words, argument_size, fixed_size, buffer_size, buffer, buffers, signature, external, taken_by_functions, taken_by_both, unit}
+use Rattle.dump_reader.specs.UnitTree.{function, int8, int16, int32, bytes, space, addr, init_operands, init, contents, alignment}
+use Rattle.dump_reader.specs.UnitTree.{variable, widths, results, arguments, buffer_words, argument_size, fixed_size, buffer_size, buffer}
+use Rattle.dump_reader.specs.UnitTree.{buffers, signature, external, taken_by_functions, taken_by_both, unit}
 use Rattle.dump_model.specs.Trees.{unsigned_data, list_data}
 use Rattle.dump_model.specs.InstructionTree.{instr_data}
-use Rattle.dump_model.specs.UnitTree.{function_data, init_data, variable_data, width_data, result_word, buffer_word, size_data, buffer_data, sig_data, optional_data, external_data, unit_data}
-use Rattle.dump_model.specs.Types.{is_byte, is_address, is_typed_instr, is_typed_function, is_typed_init, is_typed_variable, is_typed_size, is_typed_buffer, is_typed_sig, is_typed_external, is_typed_unit}
+use Rattle.dump_model.specs.UnitTree.{function_data, init_data, variable_data, width_data, result_word, buffer_word, size_data}
+use Rattle.dump_model.specs.UnitTree.{buffer_data, sig_data, optional_data, external_data, unit_data}
+use Rattle.dump_model.specs.Types.{is_byte, is_address, is_typed_instr, is_typed_function, is_typed_init, is_typed_variable, is_typed_size}
+use Rattle.dump_model.specs.Types.{is_typed_buffer, is_typed_sig, is_typed_external, is_typed_unit}
 use Rattle.dump_model.specs.Written.{sig_has_buffer, has_buffer, version_of}
 use Rattle.dump_model.proofs.Numbers.{natural_back, wrapped_back, word_back, signed32_back, name_back}
 use Rattle.dump_model.proofs.Lists.{list_back}

@@ -1,7 +1,11 @@
 -- The spelling of each form of instruction, by its class and its place in the class's row.
 use Rattle.std.specs.Prelude.{ℕ, List}
-use Rattle.isa_model.specs.Instructions.{name_at, alu_imm_names, log_imm_names, alu_names, alu2_names, log_names, log2_names, srawi_name, rot_names, load_names, store_names, load_x_names, store_x_names, cmp_names, cmp_imm_names, cr_bit_names, move_names, bar_names, jump_names}
-use Rattle.asm_syntax.specs.Places.{alu_imm_place, log_imm_place, alu_place, alu2_place, log_place, log2_place, rot_place, load_place, store_place, load_x_place, store_x_place, cmp_place, cmp_imm_place, cr_bit_place, move_place, bar_place}
+use Rattle.isa_model.specs.Instructions.{name_at, alu_imm_names, log_imm_names, alu_names, alu2_names, log_names, log2_names, srawi_name}
+use Rattle.isa_model.specs.Instructions.{rot_names, load_names, store_names, load_x_names, store_x_names, cmp_names, cmp_imm_names}
+use Rattle.isa_model.specs.Instructions.{cr_bit_names, move_names, bar_names, jump_names}
+use Rattle.asm_syntax.specs.Places.{alu_imm_place, log_imm_place, alu_place, alu2_place, log_place, log2_place, rot_place, load_place}
+use Rattle.asm_syntax.specs.Places.{store_place, load_x_place, store_x_place, cmp_place, cmp_imm_place, cr_bit_place, move_place}
+use Rattle.asm_syntax.specs.Places.{bar_place}
 use Rattle.mnemonics.specs.Mnemonics.{pseudo_names}
 use Rattle.mnemonics.specs.declared.form.Form.{Form}
 use Rattle.mnemonics.specs.declared.form.Form.TheVariants as Forms

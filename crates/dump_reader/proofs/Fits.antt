@@ -14,12 +14,15 @@ use Rattle.asm_syntax.specs.declared.unit.Width.{Width}
 use Rattle.asm_syntax.specs.declared.unit.Sig.{Sig}
 use Rattle.asm_syntax.specs.declared.unit.External.{External}
 use Rattle.asm_syntax.specs.declared.shape.ShapeError.{ShapeError}
-use Rattle.asm_syntax.specs.declared.shape.ShapeError.TheVariants.{WritesReserved, NoLabel, TwoLabels, BadFrame, Empty, BadRange, TooManyArgs, BadBuffer}
-use Rattle.limits.specs.declared.TheConstants.{MOST_FUNCTIONS, MOST_VARIABLES, MOST_EXTERNALS, MOST_INSTRUCTIONS, MOST_INIT_ITEMS, MOST_VARIABLE_BYTES}
+use Rattle.asm_syntax.specs.declared.shape.ShapeError.TheVariants.{WritesReserved, NoLabel, TwoLabels, BadFrame, Empty, BadRange}
+use Rattle.asm_syntax.specs.declared.shape.ShapeError.TheVariants.{TooManyArgs, BadBuffer}
+use Rattle.limits.specs.declared.TheConstants.{MOST_FUNCTIONS, MOST_VARIABLES, MOST_EXTERNALS, MOST_INSTRUCTIONS, MOST_INIT_ITEMS}
+use Rattle.limits.specs.declared.TheConstants.{MOST_VARIABLE_BYTES}
 use Rattle.asm_syntax.specs.Sizes.{limited_size}
 use Rattle.asm_shapes.specs.Shapes.{function_tests, is_valid_code}
 use Rattle.asm_shapes.specs.Signatures.{argument_tests, buffer_tests, is_valid_sig}
-use Rattle.asm_shapes.specs.Units.{function_name, variable_name, external_name, are_distinct, table_fits, function_fits, is_alignment, variable_fits, external_fits, unit_fits}
+use Rattle.asm_shapes.specs.Units.{function_name, variable_name, external_name, are_distinct, table_fits, function_fits, is_alignment}
+use Rattle.asm_shapes.specs.Units.{variable_fits, external_fits, unit_fits}
 use Rattle.json_tree.specs.declared.fault.Cause.TheVariants.{OutOfRange, Limit}
 use Rattle.json_tree.specs.Reading.{◌>>=◌, fail, field, object, boolean, name, or_null, word_of}
 use Rattle.json_tree.specs.Arrays.{list}
@@ -30,14 +33,16 @@ use Rattle.dump_reader.specs.declared.profile.TheConstants.{NEWEST}
 use Rattle.dump_reader.specs.declared.external.TheConstants.{MOST_INDEXED}
 use Rattle.dump_reader.specs.Versions.{has_buffers}
 use Rattle.dump_reader.specs.Instructions.{instr}
-use Rattle.dump_reader.specs.UnitTree.{function, well_shaped, init, contents, alignment, variable, widths, results, arguments, well_passed, buffers, well_buffered, signature, external, taken_by_functions, taken_by_both, unit, UnitsFit}
+use Rattle.dump_reader.specs.UnitTree.{function, well_shaped, init, contents, alignment, variable, widths, results, arguments, well_passed}
+use Rattle.dump_reader.specs.UnitTree.{buffers, well_buffered, signature, external, taken_by_functions, taken_by_both, unit, UnitsFit}
 use Rattle.json_tree.proofs.Causes as shares
 use Rattle.json_tree.specs.Causes.{FailsBy}
 use Rattle.dump_reader.specs.Causes.{is_dump_cause}
 use Rattle.dump_reader.proofs.OperandCauses.{shared}
 use Rattle.dump_reader.proofs.InitCauses.{of_init}
 use Rattle.dump_reader.proofs.BufferCauses.{of_buffers}
-use Rattle.dump_reader.proofs.Readings.{Has, any, causes, of_ok, after, after_any, behind, behind_passed, weaken, at_field, Limited, list_has, fresh, IsNew, AreNew, named_list_has, new_name_has}
+use Rattle.dump_reader.proofs.Readings.{Has, any, causes, of_ok, after, after_any, behind, behind_passed, weaken, at_field, Limited}
+use Rattle.dump_reader.proofs.Readings.{list_has, fresh, IsNew, AreNew, named_list_has, new_name_has}
 use Rattle.dump_reader.proofs.NewNames.{fresh_append, distinct}
 use Rattle.dump_reader.proofs.Tables.{instr_fits}
 

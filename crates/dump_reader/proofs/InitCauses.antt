@@ -6,7 +6,8 @@ use Rattle.limits.specs.declared.TheConstants.{MOST_VARIABLE_BYTES}
 use Rattle.json_tree.specs.Reading.{name}
 use Rattle.json_tree.specs.Arrays.{items, counted, nth, chosen}
 use Rattle.json_tree.specs.Numbers.{natural, wrapped, word, signed32}
-use Rattle.json_tree.proofs.Causes.{after, behind, at_item, of_name, of_items, of_counted, of_chosen, of_natural, of_wrapped, of_word_number, of_signed32}
+use Rattle.json_tree.proofs.Causes.{after, behind, at_item, of_name, of_items, of_counted, of_chosen, of_natural, of_wrapped}
+use Rattle.json_tree.proofs.Causes.{of_word_number, of_signed32}
 use Rattle.dump_reader.specs.declared.init.InitForm.{InitForm}
 use Rattle.dump_reader.specs.declared.init.InitForm.TheVariants as InitForms
 use Rattle.dump_reader.specs.Words.{allowed_word}

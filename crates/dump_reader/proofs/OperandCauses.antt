@@ -3,13 +3,15 @@ use Rattle.std.proofs.Common.{ℕ, pos, negsuc, List, Option, Some, None, Result
 use Rattle.serde_json.specs.Data.{Data}
 use Rattle.hex.specs.Hex.{decode_of}
 use Rattle.hex.specs.declared.error.FromHexError.{FromHexError}
-use Rattle.json_tree.specs.declared.fault.Cause.TheVariants.{Missing, WrongKind, OutOfRange, UnknownWord, Version, Shape, Refused, RangeOrder, Unaligned, Limit}
+use Rattle.json_tree.specs.declared.fault.Cause.TheVariants.{Missing, WrongKind, OutOfRange, UnknownWord, Version, Shape, Refused}
+use Rattle.json_tree.specs.declared.fault.Cause.TheVariants.{RangeOrder, Unaligned, Limit}
 use Rattle.json_tree.specs.declared.fault.Fault.{Fault}
 use Rattle.json_tree.specs.Causes.{FailsBy}
 use Rattle.json_tree.specs.Reading.{text, name, word_of}
 use Rattle.json_tree.specs.Arrays.{items, counted, nth, chosen}
 use Rattle.json_tree.specs.Numbers.{unsigned32, signed32}
-use Rattle.json_tree.proofs.Causes.{AllowsShared, after, behind, choice, at_item, of_text, of_name, of_word, of_items, of_counted, of_chosen, of_ranged, of_natural, of_unsigned32, of_signed32}
+use Rattle.json_tree.proofs.Causes.{AllowsShared, after, behind, choice, at_item, of_text, of_name, of_word, of_items, of_counted}
+use Rattle.json_tree.proofs.Causes.{of_chosen, of_ranged, of_natural, of_unsigned32, of_signed32}
 use Rattle.asm_syntax.specs.declared.operations.AluImmOp.{AluImmOp}
 use Rattle.asm_syntax.specs.declared.operations.AluImmOp.TheVariants.{Mulli, Subfic, Addic, Addi, Addis}
 use Rattle.asm_syntax.specs.declared.operations.CmpImmOp.{CmpImmOp}
@@ -18,7 +20,8 @@ use Rattle.dump_reader.specs.declared.constant.Part.{Part}
 use Rattle.dump_reader.specs.Causes.{is_dump_cause}
 use Rattle.dump_reader.specs.Words.{if_allowed, allowed_word}
 use Rattle.dump_reader.specs.Digits.{if_decoded, digits}
-use Rattle.dump_reader.specs.Operands.{register, bit_number, cr_field, signed16, compared, low_parts, high_parts, symbolic, short, is_array, constant, alu_constant, displacement}
+use Rattle.dump_reader.specs.Operands.{register, bit_number, cr_field, signed16, compared, low_parts, high_parts, symbolic, short}
+use Rattle.dump_reader.specs.Operands.{is_array, constant, alu_constant, displacement}
 use Rattle.dump_reader.specs.Instructions.{two_registers, three_registers, one_number, one_symbol, bit_and_label}
 
 abbrev pub Fails : {T : Type 0} → Result T Fault → Type 0

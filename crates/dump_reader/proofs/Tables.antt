@@ -36,11 +36,14 @@ use Rattle.json_tree.specs.Arrays.{items, limited, list, counted, nth, chosen}
 use Rattle.json_tree.specs.Numbers.{unsigned16, unsigned32, word}
 use Rattle.dump_reader.specs.Words.{allowed_word}
 use Rattle.dump_reader.specs.Operands.{register, bit_number, cr_field, compared, labels, alu_constant, displacement}
-use Rattle.dump_reader.specs.Instructions.{two_registers, three_registers, one_number, one_symbol, bit_and_label, alu_imm, log_imm, alu, alu2, log, log2, srawi, rot, load, store, load_x, store_x, cmp, cmp_imm, cr_bit, move_special, bar, jump, imm, btbl, mfcr_bit, pseudo, operands, instr}
+use Rattle.dump_reader.specs.Instructions.{two_registers, three_registers, one_number, one_symbol, bit_and_label, alu_imm, log_imm, alu}
+use Rattle.dump_reader.specs.Instructions.{alu2, log, log2, srawi, rot, load, store, load_x, store_x, cmp, cmp_imm, cr_bit, move_special}
+use Rattle.dump_reader.specs.Instructions.{bar, jump, imm, btbl, mfcr_bit, pseudo, operands, instr}
 use Rattle.json_tree.specs.Causes.{FailsBy}
 use Rattle.json_tree.proofs.Causes as shares
 use Rattle.dump_reader.specs.Causes.{is_dump_cause}
-use Rattle.dump_reader.proofs.OperandCauses.{shared, of_allowed, of_register, of_cr_field, of_compared, of_alu_constant, of_displacement, of_two_registers, of_three_registers, of_one_number, of_one_symbol, of_bit_and_label}
+use Rattle.dump_reader.proofs.OperandCauses.{shared, of_allowed, of_register, of_cr_field, of_compared, of_alu_constant, of_displacement}
+use Rattle.dump_reader.proofs.OperandCauses.{of_two_registers, of_three_registers, of_one_number, of_one_symbol, of_bit_and_label}
 use Rattle.dump_reader.proofs.Readings.{Has, any, at_item, after, after_any, behind, behind_passed, weaken, each_has, few}
 
 abbrev pub TableFits : Instr → Type 0

@@ -9,7 +9,8 @@ use Rattle.json_tree.specs.declared.fault.Cause.TheVariants as causes
 use Rattle.json_tree.specs.declared.fault.Fault.{Fault}
 use Rattle.json_tree.specs.Profile.{tree_of}
 use Rattle.dump_reader.specs.declared.error.DumpError.{DumpError}
-use Rattle.dump_reader.specs.declared.error.DumpError.TheVariants.{NotJson, Missing, WrongKind, OutOfRange, UnknownWord, Version, Shape, Refused, Limit, Memory}
+use Rattle.dump_reader.specs.declared.error.DumpError.TheVariants.{NotJson, Missing, WrongKind, OutOfRange, UnknownWord, Version, Shape}
+use Rattle.dump_reader.specs.declared.error.DumpError.TheVariants.{Refused, Limit, Memory}
 use Rattle.dump_reader.specs.UnitTree.{unit}
 use Rattle.dump_reader.specs.ReplyTree.{replies}
 

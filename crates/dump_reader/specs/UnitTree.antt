@@ -1,5 +1,6 @@
 -- The grammar of units.
-use Rattle.std.specs.Prelude.{◌≡◌, ℕ, ◌^◌, Bool, true, false, List, [], ◌∷◌, map, is_some, Option, Some, None, Result, Ok, codes, if◌then◌else◌, IsTrue, ⊤}
+use Rattle.std.specs.Prelude.{◌≡◌, ℕ, ◌^◌, Bool, true, false, List, [], ◌∷◌, map, is_some, Option, Some, None, Result, Ok, codes}
+use Rattle.std.specs.Prelude.{if◌then◌else◌, IsTrue, ⊤}
 use Rattle.ordered_tests.specs.Checks.{first_fault}
 use Rattle.serde_json.specs.Data.{Data}
 use Rattle.asm_syntax.specs.declared.path.Step.TheVariants.{Key, Index}
@@ -17,7 +18,8 @@ use Rattle.asm_syntax.specs.declared.unit.External.{External}
 use Rattle.asm_syntax.specs.declared.unit.Unit.{Unit}
 use Rattle.asm_syntax.specs.declared.shape.ShapeError.{ShapeError}
 use Rattle.asm_syntax.specs.declared.shape.ShapeError.TheVariants.{Empty}
-use Rattle.limits.specs.declared.TheConstants.{MOST_FUNCTIONS, MOST_VARIABLES, MOST_EXTERNALS, MOST_INSTRUCTIONS, MOST_INIT_ITEMS, MOST_VARIABLE_BYTES, MOST_BUFFERS, MOST_BUFFER_BYTES}
+use Rattle.limits.specs.declared.TheConstants.{MOST_FUNCTIONS, MOST_VARIABLES, MOST_EXTERNALS, MOST_INSTRUCTIONS, MOST_INIT_ITEMS}
+use Rattle.limits.specs.declared.TheConstants.{MOST_VARIABLE_BYTES, MOST_BUFFERS, MOST_BUFFER_BYTES}
 use Rattle.asm_shapes.specs.Shapes.{function_tests}
 use Rattle.asm_shapes.specs.Signatures.{argument_tests, buffer_tests}
 use Rattle.asm_syntax.specs.ShapeFaults.{shape_place}

@@ -3,7 +3,8 @@
 ghost use Rattle.std.specs.Prelude.{◌≡◌, map};
 ghost use Rattle.serde_json.specs.View.{view};
 ghost use Rattle.json_tree.specs.Answers.{Gives};
-ghost use Rattle.dump_reader.specs.Instructions.{alu_imm, log_imm, alu, alu2, log, log2, srawi, rot, load, store, load_x, store_x, cmp, cmp_imm, cr_bit, move_special, bar};
+ghost use Rattle.dump_reader.specs.Instructions.{alu_imm, log_imm, alu, alu2, log, log2, srawi, rot, load, store, load_x, store_x, cmp};
+ghost use Rattle.dump_reader.specs.Instructions.{cmp_imm, cr_bit, move_special, bar};
 
 use crate::constant::{alu_constant, displacement};
 use crate::operands::{bit_number, compared, cr_field, register, three_registers, two_registers};

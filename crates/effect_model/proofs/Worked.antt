@@ -115,7 +115,8 @@ unfolding results
 extensions = (refl, refl, refl, refl)
 
 comparisons :
-    (results op.Comparison 0xffffffff 0 0 ≡ three true false false) × (results op.Comparison 0x7fffffff 0x80000000 0 ≡ three false true false)
+    (results op.Comparison 0xffffffff 0 0 ≡ three true false false)
+    × (results op.Comparison 0x7fffffff 0x80000000 0 ≡ three false true false)
     × (results op.Comparison 5 5 0 ≡ three false false true) × (results op.ComparisonUnsigned 0xffffffff 0 0 ≡ three false true false)
     × (results op.ComparisonUnsigned 0 0x80000000 0 ≡ three true false false)
 unfolding results

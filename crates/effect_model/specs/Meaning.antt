@@ -1,9 +1,14 @@
 -- The meaning of each operation on words. Power ISA 2.07, Book I, "Fixed-Point Facility" and "Condition Register Logical Instructions".
-use Rattle.std.specs.Prelude.{ℕ, ◌+◌, ◌-◌, ◌*◌, ◌/◌, ◌%◌, ◌^◌, Bool, false, not, ◌&&◌, ◌||◌, nat_lt, nat_le, ◌==◌, if◌then◌else◌, int_lt, int_div, bit_and, bit_or, bit_xor, min}
+use Rattle.std.specs.Prelude.{ℕ, ◌+◌, ◌-◌, ◌*◌, ◌/◌, ◌%◌, ◌^◌, Bool, false, not, ◌&&◌, ◌||◌, nat_lt, nat_le, ◌==◌, if◌then◌else◌, int_lt}
+use Rattle.std.specs.Prelude.{int_div, bit_and, bit_or, bit_xor, min}
 use Rattle.std.specs.Int.{cast_unsigned, w32}
 use Rattle.isa_model.specs.Word.{wrapped, carry_bit, signed_word, sext8, sext16, mulh_s, mulh_u, rotl, mask, clz}
 use Rattle.effect_model.specs.declared.Op.{Op}
-use Rattle.effect_model.specs.declared.Op.TheVariants.{Sum, Difference, CarryingSum, CarryingDifference, LowProduct, HighProduct, HighProductUnsigned, Quotient, QuotientUnsigned, And, AndNot, Or, OrNot, Xor, Nor, Nand, Equivalence, ShiftLeft, ShiftRight, ShiftRightSigned, Rotation, Insertion, LeadingZeros, SignedHalf, SignedByte, Comparison, ComparisonUnsigned, BitEquivalence, Copy}
+use Rattle.effect_model.specs.declared.Op.TheVariants.{Sum, Difference, CarryingSum, CarryingDifference, LowProduct, HighProduct}
+use Rattle.effect_model.specs.declared.Op.TheVariants.{HighProductUnsigned, Quotient, QuotientUnsigned, And, AndNot, Or, OrNot, Xor, Nor}
+use Rattle.effect_model.specs.declared.Op.TheVariants.{Nand, Equivalence, ShiftLeft, ShiftRight, ShiftRightSigned, Rotation, Insertion}
+use Rattle.effect_model.specs.declared.Op.TheVariants.{LeadingZeros, SignedHalf, SignedByte, Comparison, ComparisonUnsigned}
+use Rattle.effect_model.specs.declared.Op.TheVariants.{BitEquivalence, Copy}
 use Rattle.effect_model.specs.declared.Results.{Results}
 
 -- ---- one result, two, or three that are bits; the others are 0

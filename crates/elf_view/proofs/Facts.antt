@@ -1,5 +1,6 @@
 -- What tests that pass tell of the places that are read.
-use Rattle.std.proofs.Common.{◌≡◌, ℕ, ◌<◌, ◌≤◌, true, List, ◌++◌, length, drop, get_or, Some, None, Ok, Err, arith, sym, subst, ◌∙◌, inl, inr, Fits, w8}
+use Rattle.std.proofs.Common.{◌≡◌, ℕ, ◌<◌, ◌≤◌, true, List, ◌++◌, length, drop, get_or, Some, None, Ok, Err, arith, sym, subst, ◌∙◌, inl}
+use Rattle.std.proofs.Common.{inr, Fits, w8}
 use Rattle.std.specs.Prelude.{OnOk, Result, slice_index}
 use Rattle.std.proofs.lemmas.List.{length-take, get_or_default}
 use Rattle.std.proofs.Common.{length-drop}
@@ -16,7 +17,8 @@ use Rattle.image_model.specs.SectionHeader.{sh_offset, sh_size, symtab, strtab, 
 use Rattle.image_model.specs.FileHeader.{e_phnum}
 use Rattle.image_model.specs.ProgramHeader.{program_header, is_load}
 use Rattle.image_model.specs.SymbolTable.{symbol_count, symbol_place, st_name}
-use Rattle.image_model.specs.Tests.{has_range, has_name, header_tests, size_tests, ident_tests, kind_tests, place_tests, numbered_segment_tests, segments_tests, symtab_tests, table_tests, name_tests, names_tests, elf_tests}
+use Rattle.image_model.specs.Tests.{has_range, has_name, header_tests, size_tests, ident_tests, kind_tests, place_tests}
+use Rattle.image_model.specs.Tests.{numbered_segment_tests, segments_tests, symtab_tests, table_tests, name_tests, names_tests, elf_tests}
 use Rattle.elf_view.specs.Facts.{IsHeaded, AreTablesPlaced, IsReadable}
 
 ranges : (b : List ℕ) → first_fault (segments_tests b) ≡ None → (i : ℕ) → i < e_phnum b → is_load b (program_header b i) ≡ true

@@ -1,5 +1,6 @@
 -- Lent bytes are where the headers and the symbols say.
-use Rattle.std.proofs.Common.{◌≡◌, ℕ, inl, inr, suc, ◌+◌, ◌-◌, ◌<◌, ◌≤◌, Bool, true, false, List, [], ◌∷◌, length, map, take, drop, get_or, Option, Some, None, refl, arith, sym, ap, subst, ◌++◌, ◌∙◌, length-drop, Bor}
+use Rattle.std.proofs.Common.{◌≡◌, ℕ, inl, inr, suc, ◌+◌, ◌-◌, ◌<◌, ◌≤◌, Bool, true, false, List, [], ◌∷◌, length, map, take, drop, get_or}
+use Rattle.std.proofs.Common.{Option, Some, None, refl, arith, sym, ap, subst, ◌++◌, ◌∙◌, length-drop, Bor}
 use Rattle.std.specs.Prelude.{if◌then◌else◌, find, not, ◌==◌, slice_get, option_map, Contains, IfSome}
 use Rattle.std.specs.List.{prefix_len}
 use Rattle.std.specs.Option.{option_map_or}

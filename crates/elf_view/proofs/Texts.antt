@@ -1,5 +1,6 @@
 -- The bytes up to a zero byte.
-use Rattle.std.proofs.Common.{◌≡◌, ℕ, zero, suc, ◌+◌, ◌-◌, ◌<◌, ◌≤◌, Bool, true, false, List, [], ◌∷◌, length, take, drop, Option, refl, arith, sym, ap, inl, inr, cond, length-drop}
+use Rattle.std.proofs.Common.{◌≡◌, ℕ, zero, suc, ◌+◌, ◌-◌, ◌<◌, ◌≤◌, Bool, true, false, List, [], ◌∷◌, length, take, drop, Option, refl}
+use Rattle.std.proofs.Common.{arith, sym, ap, inl, inr, cond, length-drop}
 use Rattle.std.specs.Prelude.{◌⊎◌, position, not, nat_lt, ◌==◌, Some, None}
 use Rattle.std.specs.Cmp.Lexicographic.{slice_cmp}
 use Rattle.std.specs.List.{prefix_len, take_while}

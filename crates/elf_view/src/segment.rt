@@ -1,5 +1,6 @@
 // The segments that are loaded, in the order of their headers. System V gABI, "Program Header", "Program Loading".
-ghost use Rattle.std.specs.Prelude.{◌≡◌, ◌≤◌, ◌<◌, ◌+◌, ◌*◌, ◌-◌, ℕ, length, slice_get, ◌∷◌, Some, IsTrue, ◌↔◌, IfNone, IfSome, option_map, find};
+ghost use Rattle.std.specs.Prelude.{◌≡◌, ◌≤◌, ◌<◌, ◌+◌, ◌*◌, ◌-◌, ℕ, length, slice_get, ◌∷◌, Some, IsTrue, ◌↔◌, IfNone, IfSome};
+ghost use Rattle.std.specs.Prelude.{option_map, find};
 ghost use Rattle.image_model.specs.FileHeader.{e_phnum};
 ghost use Rattle.image_model.specs.Image.{segments_of};
 ghost use Rattle.image_model.specs.Loaded.{covers, segment_byte, segment_word, holds_range, HasRange};

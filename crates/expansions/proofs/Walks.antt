@@ -159,7 +159,7 @@ taken_length v a n x five e q =
 
 -- ---- a step of a loop over the code
 
-at_get : {X : Type 0} (code : List X) (i : ℕ) (x : X) → slice_get code i ≡ Some x → drop i code ≡ x ∷ drop (i + 1) code
+pub at_get : {X : Type 0} (code : List X) (i : ℕ) (x : X) → slice_get code i ≡ Some x → drop i code ≡ x ∷ drop (i + 1) code
 at_get [] i x h = absurd (cc)
 at_get (y ∷ ys) zero x h = let s : y ≡ x = cc in rw s refl
 at_get (y ∷ ys) (suc i) x h = let e : suc i + 1 ≡ suc (i + 1) = omega arith in rw e (at_get ys i x h)

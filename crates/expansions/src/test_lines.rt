@@ -8,17 +8,18 @@ use layout_file::layout::Layout;
 use layout_file::read_layout;
 use std::alloc::{AllocError, Global};
 use std::str::SplitWhitespace;
+use test_images::layouts::layout_of;
 
 // Two areas of code beside each other, one of constants, one of data.
-static LAYOUT: &str =
-    r#"{"valex":"layout","version":1,"entry":"main","stop":"0x10000000","stack":["0x20000000","0x20010000"],"r13":"0x10038000","r2":"0x10048000","areas":[{"name":"text","range":["0x10010000","0x10011000"],"kind":"code"},{"name":"more","range":["0x10011000","0x10012000"],"kind":"code"},{"name":"rodata","range":["0x10018000","0x10019000"],"kind":"const"},{"name":"data","range":["0x10020000","0x10021000"],"kind":"data"}],"foreign":[],"pins":[]}"#;
-
-fn layout_text() -> &'static str {
-    LAYOUT
-}
+static LAYOUT: &str = "area code 10010000 10011000
+area code 10011000 10012000
+area const 10018000 10019000
+area data 10020000 10021000
+";
 
 pub fn layout(alloc: Global) -> Option<Layout> {
-    read_layout(alloc, layout_text().as_bytes()).ok()
+    let text = layout_of(alloc, LAYOUT)?;
+    read_layout(alloc, text.as_bytes()).ok()
 }
 
 /// Decimal digits, or `0x` and hexadecimal ones.

@@ -1,5 +1,6 @@
 -- Registers that agree go on to agree.
-use Rattle.std.proofs.Common.{◌≡◌, ℕ, zero, suc, ◌+◌, Bool, true, false, not, ◌&&◌, List, [], ◌∷◌, length, refl, sym, ap, ◌∙◌, subst, arith, if◌then◌else◌, length-set, get_or-set_other}
+use Rattle.std.proofs.Common.{◌≡◌, ℕ, zero, suc, ◌+◌, Bool, true, false, not, ◌&&◌, List, [], ◌∷◌, length, refl, sym, ap, ◌∙◌, subst}
+use Rattle.std.proofs.Common.{arith, if◌then◌else◌, length-set, get_or-set_other}
 use Rattle.std.specs.Prelude.{◌==◌, ◌||◌, slice_index_or}
 use Rattle.std.specs.List.{list_all}
 use Rattle.std.proofs.lemmas.Bool.{and_parts}
@@ -111,12 +112,75 @@ module _ (w : World) (live : List Live) (next : ℕ) where
 
   pub put_law : (f : File Val) (g : File ℕ) → FilesAgree w live next f g → (p : Place) (v : Val) (x : ℕ) → Free p → Means w live next v x
       → FilesAgree w live next (put f p v) (put g p x)
-  put_law f g h (Gpr n) v x e m = record { gprs = both_set (Means w live next) f.gprs g.gprs v x m h.gprs n; wide = length-set g.gprs n x ∙ h.wide; bits = h.bits; bits_wide = h.bits_wide; lr = h.lr; ctr = h.ctr; ca = h.ca; so = h.so; bases = (get_or-set_other g.gprs n 2 x 0 e.0 ∙ h.bases.0, get_or-set_other g.gprs n 13 x 0 e.1 ∙ h.bases.1) }
-  put_law f g h (Bit n) v x e m = record { gprs = h.gprs; wide = h.wide; bits = both_set (Means w live next) f.bits g.bits v x m h.bits n; bits_wide = length-set g.bits n x ∙ h.bits_wide; lr = h.lr; ctr = h.ctr; ca = h.ca; so = h.so; bases = h.bases }
-  put_law f g h Lr v x e m = record { gprs = h.gprs; wide = h.wide; bits = h.bits; bits_wide = h.bits_wide; lr = m; ctr = h.ctr; ca = h.ca; so = h.so; bases = h.bases }
-  put_law f g h Ctr v x e m = record { gprs = h.gprs; wide = h.wide; bits = h.bits; bits_wide = h.bits_wide; lr = h.lr; ctr = m; ca = h.ca; so = h.so; bases = h.bases }
-  put_law f g h Ca v x e m = record { gprs = h.gprs; wide = h.wide; bits = h.bits; bits_wide = h.bits_wide; lr = h.lr; ctr = h.ctr; ca = m; so = h.so; bases = h.bases }
-  put_law f g h So v x e m = record { gprs = h.gprs; wide = h.wide; bits = h.bits; bits_wide = h.bits_wide; lr = h.lr; ctr = h.ctr; ca = h.ca; so = m; bases = h.bases }
+  put_law f g h (Gpr n) v x e m =
+      record {
+        gprs = both_set (Means w live next) f.gprs g.gprs v x m h.gprs n;
+        wide = length-set g.gprs n x ∙ h.wide;
+        bits = h.bits;
+        bits_wide = h.bits_wide;
+        lr = h.lr;
+        ctr = h.ctr;
+        ca = h.ca;
+        so = h.so;
+        bases =
+            (get_or-set_other g.gprs n 2 x 0 e.0 ∙ h.bases.0, get_or-set_other g.gprs n 13 x 0 e.1 ∙ h.bases.1);
+      }
+  put_law f g h (Bit n) v x e m =
+      record {
+        gprs = h.gprs;
+        wide = h.wide;
+        bits = both_set (Means w live next) f.bits g.bits v x m h.bits n;
+        bits_wide = length-set g.bits n x ∙ h.bits_wide;
+        lr = h.lr;
+        ctr = h.ctr;
+        ca = h.ca;
+        so = h.so;
+        bases = h.bases;
+      }
+  put_law f g h Lr v x e m = record {
+    gprs = h.gprs;
+    wide = h.wide;
+    bits = h.bits;
+    bits_wide = h.bits_wide;
+    lr = m;
+    ctr = h.ctr;
+    ca = h.ca;
+    so = h.so;
+    bases = h.bases;
+  }
+  put_law f g h Ctr v x e m = record {
+    gprs = h.gprs;
+    wide = h.wide;
+    bits = h.bits;
+    bits_wide = h.bits_wide;
+    lr = h.lr;
+    ctr = m;
+    ca = h.ca;
+    so = h.so;
+    bases = h.bases;
+  }
+  put_law f g h Ca v x e m = record {
+    gprs = h.gprs;
+    wide = h.wide;
+    bits = h.bits;
+    bits_wide = h.bits_wide;
+    lr = h.lr;
+    ctr = h.ctr;
+    ca = m;
+    so = h.so;
+    bases = h.bases;
+  }
+  put_law f g h So v x e m = record {
+    gprs = h.gprs;
+    wide = h.wide;
+    bits = h.bits;
+    bits_wide = h.bits_wide;
+    lr = h.lr;
+    ctr = h.ctr;
+    ca = h.ca;
+    so = m;
+    bases = h.bases;
+  }
   put_law f g h Unused v x e m = h
 
   pub put_each_law : (to : Place → Val) (from : Place → ℕ) (ps : List Place) → AllReserved ps
@@ -138,8 +202,11 @@ module _ (w : World) (live : List Live) (next : ℕ) where
   -- results that stand for words are put
   pub outcome_law : (f : File Val) (g : File ℕ) → FilesAgree w live next f g → (op : Op) (x y z u v t : Operand) (p q r : Place)
       → reserved p ≡ false → reserved q ≡ false → reserved r ≡ false
-      → ResultsMean w live next (value_results w.program.kinds live op (value_read f x) (value_read f y) (value_read f z)) (results op (word_read g u) (word_read g v) (word_read g t))
-      → FilesAgree w live next (asm_effect w.program.kinds live (record { op = op; x = x; y = y; z = z; first = p; second = q; third = r }) f) (flat_effect (record { op = op; x = u; y = v; z = t; first = p; second = q; third = r }) g)
+      → ResultsMean w live next (value_results w.program.kinds live op (value_read f x) (value_read f y) (value_read f z))
+      (results op (word_read g u) (word_read g v) (word_read g t))
+      → FilesAgree w live next (asm_effect w.program.kinds live
+      (record { op = op; x = x; y = y; z = z; first = p; second = q; third = r }) f)
+      (flat_effect (record { op = op; x = u; y = v; z = t; first = p; second = q; third = r }) g)
   unfolding asm_effect flat_effect
   outcome_law f g h op x y z u v t p q r e1 e2 e3 m =
       put_law _ _ (put_law _ _ (put_law f g h p _ _ (free_of p e1) m.0) q _ _ (free_of q e2) m.1.0) r _ _ (free_of r e3) m.1.1

@@ -1,5 +1,6 @@
 -- A register and a constant: their sum in the assembly stands for the sum of the word's register and number.
-use Rattle.std.proofs.Common.{◌≡◌, ℕ, ◌+◌, ◌*◌, ◌%◌, ◌<◌, Bool, true, false, ◌&&◌, List, length, Option, Some, None, refl, sym, ap, ◌∙◌, subst, arith, if◌then◌else◌}
+use Rattle.std.proofs.Common.{◌≡◌, ℕ, ◌+◌, ◌*◌, ◌%◌, ◌<◌, Bool, true, false, ◌&&◌, List, length, Option, Some, None, refl, sym, ap, ◌∙◌}
+use Rattle.std.proofs.Common.{subst, arith, if◌then◌else◌}
 use Rattle.std.specs.Prelude.{◌==◌, ℤ, option_map}
 use Rattle.std.specs.Option.{option_map_or}
 use Rattle.std.specs.Int.{cast_unsigned, w32}
@@ -64,10 +65,6 @@ base_concrete a = at (a == 0)
     at true = refl
     at false = refl
 
-sum_first : (x y z : ℕ) → (results Sum x y z).first ≡ wrapped (x + y)
-unfolding results
-sum_first x y z = refl
-
 module _ (w : World) (live : List Live) (next : ℕ) where
   only_sum : (v : Val) (r : Results) → Means w live next v r.first
       → Means w live next v r.first × (Means w live next Undef r.second × Means w live next Undef r.third)
@@ -105,7 +102,8 @@ module _ (w : World) (live : List Live) (next : ℕ) where
     base_law g f fa r h x e = first (r == 13) refl e
       where
         first : (b : Bool) → (r == 13) ≡ b
-            → option_map_or (λ n. n == x) (option_map (λ n. wrapped (n + sext16 h)) (if b then Some w.layout.r13 else if r == 2 then Some w.layout.r2 else if r == 0 then Some 0 else None)) false ≡ true
+            → option_map_or (λ n. n == x) (option_map (λ n. wrapped (n + sext16 h))
+            (if b then Some w.layout.r13 else if r == 2 then Some w.layout.r2 else if r == 0 then Some 0 else None)) false ≡ true
             → wrapped (word_read g (base r) + sext16 h) ≡ x
         first true q e1 =
             let z = eqb-true r 13 q in
@@ -113,7 +111,8 @@ module _ (w : World) (live : List Live) (next : ℕ) where
         first false q e1 = second (r == 2) refl e1
           where
             second : (b : Bool) → (r == 2) ≡ b
-                → option_map_or (λ n. n == x) (option_map (λ n. wrapped (n + sext16 h)) (if b then Some w.layout.r2 else if r == 0 then Some 0 else None)) false ≡ true
+                → option_map_or (λ n. n == x) (option_map (λ n. wrapped (n + sext16 h))
+                (if b then Some w.layout.r2 else if r == 0 then Some 0 else None)) false ≡ true
                 → wrapped (word_read g (base r) + sext16 h) ≡ x
             second true q e2 =
                 let z = eqb-true r 2 q in
@@ -136,7 +135,10 @@ module _ (w : World) (live : List Live) (next : ℕ) where
     const_sums (consts.Lo name o) a key t at wd made v e k f g h =
         let q = k _ refl in
         let l : lo wd ≡ lo (address_plus t o) = eqb-true (lo wd) (lo (address_plus t o)) e in
-        sum_law w ok live next laid _ _ _ _ (read_law w live next f g h (base a) (base_concrete a)) (q.0, half_is (lo wd) _ (l ∙ ap (λ z. lo (address_plus z o)) q.1) (omega arith))
+        sum_law w ok live next laid _ _ _ _ (read_law w live next f g h (base a) (base_concrete a)) (
+          q.0,
+          half_is (lo wd) _ (l ∙ ap (λ z. lo (address_plus z o)) q.1) (omega arith),
+        )
     const_sums (consts.Ha name o) a key t at wd made v e k f g h = cc
     const_sums (consts.Sda name o) a key t at wd made v e k f g h =
         let q = k _ refl in
@@ -144,8 +146,11 @@ module _ (w : World) (live : List Live) (next : ℕ) where
         let b = base_law g f h (base_field wd) (lo wd) (address_plus t o) e in
         let n : cast_unsigned w32 (half_field wd) ≡ sext16 (lo wd) = half_is (lo wd) (lo wd) refl (omega arith) in
         let x = wrapped (word_read g (base (base_field wd)) + cast_unsigned w32 (half_field wd)) in
-        let y : x ≡ wrapped (address_plus (w.address key) o + 0) = ap (λ m. wrapped (word_read g (base (base_field wd)) + m)) n ∙ b ∙ ap (λ m. address_plus m o) q.1 ∙ again (w.address key + cast_unsigned w32 o) in
-        subst (λ m. Means w live next (sum_args w.program.kinds (value_read f (base m)) (operand.Sda key o)) x) (sym z) (symbol_law w ok live next laid key o 0 x q.0 y)
+        let y : x ≡ wrapped (address_plus (w.address key) o + 0) =
+        ap (λ m. wrapped (word_read g (base (base_field wd)) + m)) n ∙ b ∙ ap (λ m. address_plus m o) q.1
+        ∙ again (w.address key + cast_unsigned w32 o) in
+        subst (λ m. Means w live next (sum_args w.program.kinds (value_read f (base m)) (operand.Sda key o)) x) (sym z)
+        (symbol_law w ok live next laid key o 0 x q.0 y)
 
     spread_high : (h y : ℕ) → h < 65536 → y ≡ h → wrapped (spread h * 65536) ≡ wrapped (y * 65536)
     spread_high h y l e = omega arith
@@ -157,7 +162,8 @@ module _ (w : World) (live : List Live) (next : ℕ) where
     pub high_sums : (c : Const) (a key t at wd : ℕ) (made : ℕ → ℤ → Machine) → is_high_constant c ≡ true
         → agrees w.layout at (constant_form t a c made).gap wd ≡ true
         → ((r : Reference) → const_symbol c ≡ Some r → (key < length w.program.kinds) × (t ≡ w.address key))
-        → SumsAgree w live next (base a) (shifted (constant_of c key)) (base (found_base a c wd)) (shifted (constant.Int (found_number c wd)))
+        → SumsAgree w live next (base a) (shifted (constant_of c key)) (base (found_base a c wd))
+        (shifted (constant.Int (found_number c wd)))
     high_sums (consts.Int n) a key t at wd made v e k f g h =
         concrete_sums (base a) (Number (wrapped (cast_unsigned w32 n * 65536))) (base_concrete a) refl f g h
     high_sums (consts.Ha name o) a key t at wd made v e k f g h =

@@ -1,5 +1,6 @@
 -- What is built holds what the image loads, and the stack.
-use Rattle.std.proofs.Common.{◌≡◌, ℕ, zero, suc, ◌+◌, ◌-◌, ◌<◌, ◌≤◌, inl, inr, Bool, true, false, List, [], ◌∷◌, ◌++◌, length, map, replicate, Option, Some, None, slice_index, nat_lt, refl, sym, arith, ◌∙◌, ap}
+use Rattle.std.proofs.Common.{◌≡◌, ℕ, zero, suc, ◌+◌, ◌-◌, ◌<◌, ◌≤◌, inl, inr, Bool, true, false, List, [], ◌∷◌, ◌++◌, length, map}
+use Rattle.std.proofs.Common.{replicate, Option, Some, None, slice_index, nat_lt, refl, sym, arith, ◌∙◌, ap}
 use Rattle.std.specs.Prelude.{find, option_map, slice_get}
 use Rattle.std.proofs.lemmas.Bool.{cases_Bool, ltb-false}
 use Rattle.std.proofs.lemmas.Bool.Decides.{nat_tests}
@@ -50,7 +51,7 @@ beyond [] (suc i) h = refl
 beyond (x ∷ xs) zero h = absurd (omega arith)
 beyond (x ∷ xs) (suc i) h = beyond xs i (omega arith)
 
-plain_byte : (s : Segment) (i : ℕ) → segment_byte s i ≡ slice_index s.held i
+pub plain_byte : (s : Segment) (i : ℕ) → segment_byte s i ≡ slice_index s.held i
 plain_byte s i = at (nat_lt i (length s.held)) refl
   where
     at : (t : Bool) → nat_lt i (length s.held) ≡ t → segment_byte s i ≡ slice_index s.held i

@@ -1,5 +1,6 @@
 -- The memory of an image and a stack.
-use Rattle.std.specs.Prelude.{◌≡◌, ◌≤◌, ℕ, ◌+◌, ◌-◌, ◌^◌, true, false, if◌then◌else◌, List, ◌∷◌, ◌++◌, map, replicate, length, slice_get, Some}
+use Rattle.std.specs.Prelude.{◌≡◌, ◌≤◌, ℕ, ◌+◌, ◌-◌, ◌^◌, true, false, if◌then◌else◌, List, ◌∷◌, ◌++◌, map, replicate, length, slice_get}
+use Rattle.std.specs.Prelude.{Some}
 use Rattle.word_ops.specs.Ranges.{Extent, extent, holds}
 use Rattle.image_model.specs.Image.{Image, Segment}
 use Rattle.image_model.specs.Loaded.{is_writable, byte_at, flags_at}

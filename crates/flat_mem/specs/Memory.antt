@@ -1,5 +1,6 @@
 -- Flat memory: a list of segments, of which the first that covers an address has its byte. Addresses wrap.
-use Rattle.std.specs.Prelude.{ℕ, zero, suc, ◌+◌, ◌-◌, Bool, true, false, ◌&&◌, if◌then◌else◌, List, [], ◌∷◌, slice_set, Option, find, is_some, option_map}
+use Rattle.std.specs.Prelude.{ℕ, zero, suc, ◌+◌, ◌-◌, Bool, true, false, ◌&&◌, if◌then◌else◌, List, [], ◌∷◌, slice_set, Option, find}
+use Rattle.std.specs.Prelude.{is_some, option_map}
 use Rattle.std.specs.Option.{option_map_or}
 use Rattle.isa_model.specs.Word.{wrapped}
 use Rattle.image_model.specs.Image.{Segment}

@@ -1,61 +1,18 @@
 // Code of two words, data of 3 bytes in the file and 8 in memory, and a stack.
 use crate::memory::{FaultKind, FlatMem};
-use byteorder::{BigEndian, ByteOrder};
 use effect_model::Form;
 use elf_view::ElfView;
 use std::alloc::{AllocError, Global};
 use std::test::Fail;
+use test_images::lines::image_of;
 use word_ops::range::Range;
 
-const SIZE: usize = 208;
-
-// The words of the file that are not zero, each with its offset. System V gABI, "ELF Header" to "Sections".
-static WORDS: [(u16, u32); 28] = [
-    (0, 0x7f45_4c46),
-    (4, 0x0102_0100),
-    (16, 0x0002_0014),
-    (20, 1),
-    (24, 0x1001_0000),
-    (28, 52),
-    (32, 116),
-    (40, 0x0034_0020),
-    (44, 0x0002_0028),
-    (48, 0x0002_0000),
-    (52, 1),
-    (56, 196),
-    (60, 0x1001_0000),
-    (68, 8),
-    (72, 8),
-    (76, 5),
-    (84, 1),
-    (88, 204),
-    (92, 0x1001_8000),
-    (100, 3),
-    (104, 8),
-    (108, 6),
-    (120, 2),
-    (140, 1),
-    (152, 16),
-    (160, 3),
-    (196, 0x3860_0007),
-    (200, 0x4e80_0020),
-];
-
-fn words() -> &'static [(u16, u32)] {
-    &WORDS
-}
-
-fn fill(file: &mut [u8]) {
-    for (at, word) in words() {
-        let at = usize::from(*at);
-        if at + 4 <= file.len() {
-            BigEndian::write_u32(&mut file[at..], *word);
-        }
-    }
-    if 208 <= file.len() {
-        BigEndian::write_u32(&mut file[204..], 0x0a0b_0c0d);
-    }
-}
+// The byte behind the three of the data is in the file, and belongs to another segment.
+static IMAGE: &str = "entry 10010000
+segment 10010000 5 8 38600007 4e800020
+segment 10018000 6 8 0a0b0c
+segment 10028000 4 1 0d
+";
 
 // The memory of the file, with a stack of 16 bytes a5 from an address on.
 fn memory(alloc: Global, file: &[u8], from: u32) -> Result<Option<FlatMem>, AllocError> {
@@ -87,8 +44,7 @@ fn loads(rt: HostRuntime) -> Result<(), Fail> {
         (Form::Word, 0x2000_000d, None),
         (Form::Half, 0xffff_ffff, None),
     ];
-    let mut file = [0; SIZE];
-    fill(&mut file);
+    let file = image_of(rt.alloc(), IMAGE).ok_or("an image")?;
     let mem = memory(rt.alloc(), &file, 0x2000_0000)?.ok_or("no memory")?;
     for (form, at, value) in rows {
         assert_eq!(rt; mem.load(form, at), value, "at {at}");
@@ -146,8 +102,7 @@ fn stores(rt: HostRuntime) -> Result<(), Fail> {
         ),
     ];
     for (form, at, answer, place, word) in rows {
-        let mut file = [0; SIZE];
-        fill(&mut file);
+        let file = image_of(rt.alloc(), IMAGE).ok_or("an image")?;
         let mut mem = memory(rt.alloc(), &file, 0x2000_0000)?.ok_or("no memory")?;
         assert_eq!(rt; mem.store(form, at, 0x0102_f3f4), answer, "at {at}");
         assert_eq!(rt; mem.load(Form::Word, place), Some(word), "at {at}");
@@ -169,8 +124,7 @@ fn fetches(rt: HostRuntime) -> Result<(), Fail> {
         (0x1001_0004, 0x1001_0004, Err(FaultKind::NotCode)),
     ];
     for (stack, at, word) in rows {
-        let mut file = [0; SIZE];
-        fill(&mut file);
+        let file = image_of(rt.alloc(), IMAGE).ok_or("an image")?;
         let mem = memory(rt.alloc(), &file, stack)?.ok_or("no memory")?;
         assert_eq!(rt; mem.fetch(at), word, "at {at}");
     }

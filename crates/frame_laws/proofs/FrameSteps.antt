@@ -1,5 +1,7 @@
 -- The step laws of frames.
-use Rattle.std.proofs.Common.{◌≡◌, ℕ, zero, suc, ◌+◌, ◌-◌, ◌*◌, ◌%◌, ◌<◌, ◌≤◌, Bool, true, false, ◌&&◌, nat_le, List, [], ◌∷◌, length, replicate, Option, Some, None, option_map, refl, sym, ap, ap₂, ◌∙◌, subst, arith, ⊎_elim, if◌then◌else◌, get_or-set_other, get_or-set_same, length-set}
+use Rattle.std.proofs.Common.{◌≡◌, ℕ, zero, suc, ◌+◌, ◌-◌, ◌*◌, ◌%◌, ◌<◌, ◌≤◌, Bool, true, false, ◌&&◌, nat_le, List, [], ◌∷◌, length}
+use Rattle.std.proofs.Common.{replicate, Option, Some, None, option_map, refl, sym, ap, ap₂, ◌∙◌, subst, arith, ⊎_elim, if◌then◌else◌}
+use Rattle.std.proofs.Common.{get_or-set_other, get_or-set_same, length-set}
 use Rattle.std.proofs.lemmas.List.{length-replicate}
 use Rattle.std.proofs.Math.Seq.{set-set}
 use Rattle.std.specs.Prelude.{◌==◌, ℤ, pos, slice_index_or, slice_set, bit_or}
@@ -86,13 +88,26 @@ top_home w (k ∷ ks) h = (newest w k ks).home_is ∙ ap Some (frame_base w k ks
 module _ (w : World) (ok : Fits w) (s : State) (t : FlatState) (r : Related w s t) where
   forget_gpr : (live : List Live) (next : ℕ) (f : File Val) (g : File ℕ) → FilesAgree w live next f g → (n : ℕ)
       → FilesAgree w live next (put f (Gpr n) Undef) g
-  forget_gpr live next f g h n = record { gprs = both_forget (Means w live next) Undef (λ y. record { named = tt; shows = tt }) f.gprs g.gprs h.gprs n; wide = h.wide; bits = h.bits; bits_wide = h.bits_wide; lr = h.lr; ctr = h.ctr; ca = h.ca; so = h.so; bases = h.bases }
+  forget_gpr live next f g h n =
+      record {
+        gprs = both_forget (Means w live next) Undef (λ y. record { named = tt; shows = tt }) f.gprs g.gprs h.gprs n;
+        wide = h.wide;
+        bits = h.bits;
+        bits_wide = h.bits_wide;
+        lr = h.lr;
+        ctr = h.ctr;
+        ca = h.ca;
+        so = h.so;
+        bases = h.bases;
+      }
 
   -- the word in r1
   pub pointer_word : get 0 t.file (Gpr 1) ≡ w.layout.stack.hi - depth w s.live
   pointer_word =
-      let m : Means w s.live s.next (Ptr (top s.live) 0) (get 0 t.file (Gpr 1)) = subst (λ v. Means w s.live s.next v (get 0 t.file (Gpr 1))) r.pointer (get_law w s.live s.next s.file t.file r.files (Gpr 1)) in
-      let q : get 0 t.file (Gpr 1) ≡ wrapped (w.layout.stack.hi - depth w s.live + 0) = subst (λ h. Shows (option_map (λ a. wrapped (a + 0)) h) (get 0 t.file (Gpr 1))) (top_home w s.live r.frame) m.shows in
+      let m : Means w s.live s.next (Ptr (top s.live) 0) (get 0 t.file (Gpr 1)) =
+      subst (λ v. Means w s.live s.next v (get 0 t.file (Gpr 1))) r.pointer (get_law w s.live s.next s.file t.file r.files (Gpr 1)) in
+      let q : get 0 t.file (Gpr 1) ≡ wrapped (w.layout.stack.hi - depth w s.live + 0) =
+      subst (λ h. Shows (option_map (λ a. wrapped (a + 0)) h) (get 0 t.file (Gpr 1))) (top_home w s.live r.frame) m.shows in
       let st : w.layout.stack.hi ≤ 0xfffffff0 = ok.stack.range.most in
       omega arith
 
@@ -121,7 +136,8 @@ module _ (w : World) (ok : Fits w) (s : State) (t : FlatState) (r : Related w s 
 
     -- the memories after a frame is made, and the word of its address
     record Made (y : ℕ) : Type 0 where
-      written : Written w (k0 ∷ s.live) (suc s.next) (update s.next (λ j. set_cells j 0 (cells_by Word v)) (k0 ∷ s.live)) (stored t.mem Word y (get 0 t.file (Gpr 1)))
+      written : Written w (k0 ∷ s.live) (suc s.next) (update s.next (λ j. set_cells j 0 (cells_by Word v)) (k0 ∷ s.live))
+          (stored t.mem Word y (get 0 t.file (Gpr 1)))
       agrees : MemoryAgrees w (k1 ∷ s.live) (suc s.next) written.mem
       means : Means w (k1 ∷ s.live) (suc s.next) (Ptr s.next 0) y
 
@@ -140,14 +156,19 @@ module _ (w : World) (ok : Fits w) (s : State) (t : FlatState) (r : Related w s 
         let y_is : y ≡ wrapped (a + 0) = omega arith in
         let x = get 0 t.file (Gpr 1) in
         let m = get_law w s.live s.next s.file t.file r.files (Gpr 1) in
-        let wr = store_at w ok (k0 ∷ s.live) (suc s.next) t.mem g0 Word s.next a 0 y k0 (get Undef s.file (Gpr 1)) x (newest w k0 s.live) (omega arith) refl y_is (means_keep w s.live s.next (k0 ∷ s.live) (suc s.next) keep0 _ _ m) in
+        let wr = store_at w ok (k0 ∷ s.live) (suc s.next) t.mem g0 Word s.next a 0 y k0 (get Undef s.file (Gpr 1)) x (newest w k0 s.live)
+        (omega arith) refl y_is (means_keep w s.live s.next (k0 ∷ s.live) (suc s.next) keep0 _ _ m) in
         let b_is : base w (k1 ∷ s.live) ≡ w.layout.stack.hi - depth w (k1 ∷ s.live) = frame_base w k1 s.live (omega arith) in
         let t1 = whole in
         let z : y ≡ wrapped (base w (k1 ∷ s.live) + 0) = omega arith in
         record {
           written = wr;
-          agrees = subst (λ l. MemoryAgrees w l (suc s.next) wr.mem) (set_first (new_block s.next n true) s.live (get Undef s.file (Gpr 1))) wr.agrees;
-          means = record { named = omega arith; shows = subst (λ h. Shows (option_map (λ a. wrapped (a + 0)) h) y) (sym (newest w k1 s.live).home_is) z };
+          agrees = subst (λ l. MemoryAgrees w l (suc s.next) wr.mem)
+              (set_first (new_block s.next n true) s.live (get Undef s.file (Gpr 1))) wr.agrees;
+          means = record {
+            named = omega arith;
+            shows = subst (λ h. Shows (option_map (λ a. wrapped (a + 0)) h) y) (sym (newest w k1 s.live).home_is) z;
+          };
         }
 
     -- by the registers before r1 is set
@@ -198,7 +219,8 @@ module _ (w : World) (ok : Fits w) (s : State) (t : FlatState) (r : Related w s 
 
     -- addis, ori, stwux
     large_alloc : Stands w t f i (instrs.AllocFrame n)
-        → Spelts w (place_at w f i) (closed (addis 12 0 (short (hi (negated n)))) ∷ closed (ori 12 12 (lo (negated n))) ∷ closed (machine.Stwux 1 1 12) ∷ [])
+        → Spelts w (place_at w f i) (closed (addis 12 0 (short (hi (negated n)))) ∷ closed (ori 12 12 (lo (negated n))) ∷ closed
+        (machine.Stwux 1 1 12) ∷ [])
         → instr_length (instrs.AllocFrame n) (loaded_word w.image (place_at w f i)) ≡ 3 → 16 ≤ n → n ≤ 1048576
         → Goes w t (asm.Went (pushed f i s n))
     unfolding k0 k1 v
@@ -217,7 +239,8 @@ module _ (w : World) (ok : Fits w) (s : State) (t : FlatState) (r : Related w s 
         let b1 = sp.0.code.below in let b2 = sp.1.0.code.below in let b3 = sp.1.1.0.code.below in
         let hh = h.here in
         let p1 : t1.pc ≡ place_at w f i + 4 = omega arith in
-        let e1 = then_is w t (fetch_law w t _ _ sp.0.code r.same h.here) (ap (λ g. flat.on t g t.mem) (set_file t.file 12 _ x1 (high m (omega arith)))) in
+        let e1 = then_is w t (fetch_law w t _ _ sp.0.code r.same h.here)
+        (ap (λ g. flat.on t g t.mem) (set_file t.file 12 _ x1 (high m (omega arith)))) in
         let x2 = bit_or (get 0 g1 (Gpr 12)) (lo m) in
         let g2 = put g1 (Gpr 12) x2 in
         let t2 : FlatState = record { file = g2; pc = following t1; mem = t.mem } in
@@ -227,17 +250,26 @@ module _ (w : World) (ok : Fits w) (s : State) (t : FlatState) (r : Related w s 
         let wide1 = length-set t.file.gprs 12 x1 in
         let r2 : get 0 g2 (Gpr 12) ≡ x2 = get_or-set_same g1.gprs 12 x2 0 (omega arith) in
         let x2_is : x2 ≡ m = ap (λ z. bit_or z (lo m)) r1 ∙ or_halves (hi m) (lo m) (omega arith) (omega arith) ∙ joins m in
-        let q1 : get 0 g2 (Gpr 1) ≡ x = get_or-set_other g1.gprs 12 1 x2 0 (λ e. omega arith) ∙ get_or-set_other t.file.gprs 12 1 x1 0 (λ e. omega arith) in
+        let q1 : get 0 g2 (Gpr 1) ≡ x = get_or-set_other g1.gprs 12 1 x2 0 (λ e. omega arith)
+        ∙ get_or-set_other t.file.gprs 12 1 x1 0 (λ e. omega arith) in
         let y = wrapped (get 0 g2 (Gpr 1) + get 0 g2 (Gpr 12)) in
         let room : n + depth w s.live + w.layout.stack.lo ≤ w.layout.stack.hi = omega arith in
         let y_is : y ≡ w.layout.stack.hi - (n + depth w s.live) = ap₂ (λ a b. wrapped (a + b)) q1 (r2 ∙ x2_is) ∙ omega arith in
         let md = made y big room y_is in
-        let e3 = then_is w t2 (fetch_law w t2 _ _ sp.1.1.0.code r.same p2) (ap (λ v. kept t2 (put g2 (Gpr 1) y) (stored t.mem Word y v)) q1 ∙ ap (kept t2 (put g2 (Gpr 1) y)) md.written.is) in
+        let e3 = then_is w t2 (fetch_law w t2 _ _ sp.1.1.0.code r.same p2)
+        (ap (λ v. kept t2 (put g2 (Gpr 1) y) (stored t.mem Word y v)) q1 ∙ ap (kept t2 (put g2 (Gpr 1) y)) md.written.is) in
         let f0 = forget_gpr s.live s.next s.file t.file r.files 0 in
-        let f1 = put_law w s.live s.next _ _ f0 (Gpr 12) Undef x1 ((λ e. omega arith), (λ e. omega arith)) (record { named = tt; shows = tt }) in
-        let f2 = put_law w s.live s.next _ _ f1 (Gpr 12) Undef x2 ((λ e. omega arith), (λ e. omega arith)) (record { named = tt; shows = tt }) in
+        let f1 = put_law w s.live s.next _ _ f0 (Gpr 12) Undef x1 (
+          (λ e. omega arith),
+          (λ e. omega arith),
+        ) (record { named = tt; shows = tt }) in
+        let f2 = put_law w s.live s.next _ _ f1 (Gpr 12) Undef x2 (
+          (λ e. omega arith),
+          (λ e. omega arith),
+        ) (record { named = tt; shows = tt }) in
         let s0 = put s.file (Gpr 0) Undef in
-        let once : put (put s0 (Gpr 12) Undef) (Gpr 12) Undef ≡ put s0 (Gpr 12) Undef = ap (λ l. record s0 { gprs = l }) (set-set s0.gprs 12 Undef Undef) in
+        let once : put (put s0 (Gpr 12) Undef) (Gpr 12) Undef ≡ put s0 (Gpr 12) Undef =
+        ap (λ l. record s0 { gprs = l }) (set-set s0.gprs 12 Undef Undef) in
         let f3 = subst (λ z. FilesAgree w s.live s.next z g2) once f2 in
         let t3 : FlatState = record { file = put g2 (Gpr 1) y; pc = following t2; mem = md.written.mem } in
         (3, omega arith, (t3, (t1, e1, (t2, e2, (t3, e3, refl))), alloc_done y 3 g2 md h l (following t2) (omega arith) f3))
@@ -250,13 +282,15 @@ module _ (w : World) (ok : Fits w) (s : State) (t : FlatState) (r : Related w s 
         shape = and_parts (nat_le 16 n && nat_le n 1048576) (n % 8 == 0) h.facts.shaped.frame
 
         at : (b : Bool) → nat_le n 32768 ≡ b
-            → Spelts w (place_at w f i) (if b then closed (machine.Stwu 1 (short (lo (negated n))) 1) ∷ [] else closed (addis 12 0 (short (hi (negated n)))) ∷ closed (ori 12 12 (lo (negated n))) ∷ closed (machine.Stwux 1 1 12) ∷ [])
+            → Spelts w (place_at w f i) (if b then closed (machine.Stwu 1 (short (lo (negated n))) 1) ∷ [] else closed
+            (addis 12 0 (short (hi (negated n)))) ∷ closed (ori 12 12 (lo (negated n))) ∷ closed (machine.Stwux 1 1 12) ∷ [])
             → instr_length (instrs.AllocFrame n) (loaded_word w.image (place_at w f i)) ≡ (if b then 1 else 3)
             → Goes w t (asm.Went (pushed f i s n))
         at true e sp l =
             small_alloc h sp.0.code l (leb-true 16 n (and_parts (nat_le 16 n) (nat_le n 1048576) shape.0).0) (leb-true n 32768 e)
         at false e sp l =
-            large_alloc h sp l (leb-true 16 n (and_parts (nat_le 16 n) (nat_le n 1048576) shape.0).0) (leb-true n 1048576 (and_parts (nat_le 16 n) (nat_le n 1048576) shape.0).1)
+            large_alloc h sp l (leb-true 16 n (and_parts (nat_le 16 n) (nat_le n 1048576) shape.0).0)
+            (leb-true n 1048576 (and_parts (nat_le 16 n) (nat_le n 1048576) shape.0).1)
 
 -- ---- a frame is given back
 
@@ -299,7 +333,9 @@ module _ (w : World) (ok : Fits w) (s : State) (t : FlatState) (r : Related w s 
       let fit0 = g.laid.fits in
       let fit1 = g1.laid.fits in
       let hh = h.here in
-      let done : (y : ℕ) → Means w (j ∷ ks) s.next (Ptr j.number 0) y → place_at w f i + 4 ≤ 0xfffffff0 → Does w t (ends.Went (record { file = put t.file (Gpr 1) y; pc = following t; mem = t.mem })) → Goes w t (asm.Went (record s { file = put s.file (Gpr 1) (Ptr j.number 0); place = Code f (suc i); live = j ∷ ks })) =
+      let done : (y : ℕ) → Means w (j ∷ ks) s.next (Ptr j.number 0) y → place_at w f i + 4 ≤ 0xfffffff0
+      → Does w t (ends.Went (record { file = put t.file (Gpr 1) y; pc = following t; mem = t.mem }))
+      → Goes w t (asm.Went (record s { file = put s.file (Gpr 1) (Ptr j.number 0); place = Code f (suc i); live = j ∷ ks })) =
       λ y m below step. one w s t r _ (record { file = put t.file (Gpr 1) y; pc = following t; mem = t.mem }) step (record {
         laid = g1.laid;
         frame = g1.frame;
@@ -317,9 +353,12 @@ module _ (w : World) (ok : Fits w) (s : State) (t : FlatState) (r : Related w s 
       let ld = load_at w ok (k ∷ j ∷ ks) s.next t.mem g k.number a k (newest w k (j ∷ ks)) Word 0 y (omega arith) y_is in
       let loaded_means : Means w (k ∷ j ∷ ks) s.next (Ptr j.number 0) ld.0 = subst (λ v. Means w (k ∷ j ∷ ks) s.next v ld.0) value ld.2 in
       let m1 = means_keep w (k ∷ j ∷ ks) s.next (j ∷ ks) s.next keep _ _ loaded_means in
-      by done (is_addi (loaded_word w.image (place_at w f i)) && nat_le n 32767) refl sp ld.0 ld.1 m1 (top_home w (j ∷ ks) frame) (omega arith)
+      by done (is_addi (loaded_word w.image (place_at w f i)) && nat_le n 32767) refl sp ld.0 ld.1 m1 (top_home w (j ∷ ks) frame)
+      (omega arith)
     where
-      by : ((y : ℕ) → Means w (j ∷ ks) s.next (Ptr j.number 0) y → place_at w f i + 4 ≤ 0xfffffff0 → Does w t (ends.Went (record { file = put t.file (Gpr 1) y; pc = following t; mem = t.mem })) → Goes w t (asm.Went (record s { file = put s.file (Gpr 1) (Ptr j.number 0); place = Code f (suc i); live = j ∷ ks })))
+      by : ((y : ℕ) → Means w (j ∷ ks) s.next (Ptr j.number 0) y → place_at w f i + 4 ≤ 0xfffffff0
+          → Does w t (ends.Went (record { file = put t.file (Gpr 1) y; pc = following t; mem = t.mem }))
+          → Goes w t (asm.Went (record s { file = put s.file (Gpr 1) (Ptr j.number 0); place = Code f (suc i); live = j ∷ ks })))
           → (b : Bool) → (is_addi (loaded_word w.image (place_at w f i)) && nat_le n 32767) ≡ b
           → Spelts w (place_at w f i) (if b then closed (addi 1 1 (pos n)) ∷ [] else closed (lwz 1 (pos 0) 1) ∷ [])
           → (q : ℕ) → loaded t.mem Word (wrapped (get 0 t.file (Gpr 1) + 0)) ≡ Some q → Means w (j ∷ ks) s.next (Ptr j.number 0) q
@@ -330,7 +369,11 @@ module _ (w : World) (ok : Fits w) (s : State) (t : FlatState) (r : Related w s 
           done q mq sp.0.code.below (then_is w t (fetch_law w t _ _ sp.0.code r.same h.here) (ap (flat.got t (Gpr 1)) lq))
       by done true e2 sp q lq mq th sum =
           let st : w.layout.stack.hi ≤ 0xfffffff0 = ok.stack.range.most in
-          done (wrapped (get 0 t.file (Gpr 1) + n)) (record { named = mq.named; shows = subst (λ z. Shows (option_map (λ a. wrapped (a + 0)) z) (wrapped (get 0 t.file (Gpr 1) + n))) (sym th) (omega arith) }) sp.0.code.below
+          done (wrapped (get 0 t.file (Gpr 1) + n)) (record {
+            named = mq.named;
+            shows = subst (λ z. Shows (option_map (λ a. wrapped (a + 0)) z) (wrapped (get 0 t.file (Gpr 1) + n))) (sym th)
+                (omega arith);
+          }) sp.0.code.below
           (then_is w t (fetch_law w t _ _ sp.0.code r.same h.here) (ap (λ g. flat.on t g t.mem) (add_file t.file n)))
 
   pub free_step : Stands w t f i (instrs.FreeFrame n) → Goes w t (popped w.program f i s n s.live)
@@ -348,10 +391,15 @@ module _ (w : World) (ok : Fits w) (s : State) (t : FlatState) (r : Related w s 
 
           test : (p q u : Bool) → nat_le w.program.variables j.number ≡ p → (length k.cells == n) ≡ q
               → same_val (value_at k 4 0) (Ptr j.number 0) ≡ u
-              → Goes w t (if p && (q && u) then asm.Went (record s { file = put s.file (Gpr 1) (Ptr j.number 0); place = Code f (suc i); live = j ∷ ks }) else asm.Undefined whys.Frame)
+              → Goes w t (if p && (q && u) then asm.Went (record s {
+                file = put s.file (Gpr 1) (Ptr j.number 0);
+                place = Code f (suc i);
+                live = j ∷ ks;
+              }) else asm.Undefined whys.Frame)
           test true true true p q u =
               let sh = and_parts (nat_le 16 n) (nat_le n 1048576) shape.0 in
-              free_at k j ks e h h.facts.spelt (leb-true 16 n sh.0) (leb-true n 1048576 sh.1) (leb-true w.program.variables j.number p) (eqb-true (length k.cells) n q) (pointer_is _ _ _ u)
+              free_at k j ks e h h.facts.spelt (leb-true 16 n sh.0) (leb-true n 1048576 sh.1) (leb-true w.program.variables j.number p)
+              (eqb-true (length k.cells) n q) (pointer_is _ _ _ u)
           test true true false p q u = tt
           test true false u1 p q u = tt
           test false q1 u1 p q u = tt

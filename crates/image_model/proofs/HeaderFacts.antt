@@ -5,7 +5,8 @@ use Rattle.ordered_tests.specs.Checks.{first_fault}
 use Rattle.ordered_tests.proofs.Faults.{front_passes, rest_passes}
 use Rattle.image_model.specs.FileHeader.{e_phoff, e_phnum, e_shoff, e_shnum}
 use Rattle.image_model.specs.SectionHeader.{symtabs}
-use Rattle.image_model.specs.Tests.{elf_tests, header_tests, size_tests, ident_tests, kind_tests, place_tests, segments_tests, symtab_tests, table_tests, names_tests}
+use Rattle.image_model.specs.Tests.{elf_tests, header_tests, size_tests, ident_tests, kind_tests, place_tests, segments_tests}
+use Rattle.image_model.specs.Tests.{symtab_tests, table_tests, names_tests}
 
 pub record HeadersLie (b : List ℕ) : Type 0 where
   pub least : 52 ≤ length b

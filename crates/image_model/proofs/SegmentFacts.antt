@@ -1,5 +1,6 @@
 -- What the tests of an executable tell of the segments that it loads.
-use Rattle.std.proofs.Common.{◌≡◌, ℕ, zero, suc, ◌+◌, ◌-◌, ◌^◌, ◌<◌, ◌≤◌, inl, inr, Bool, true, false, not, ◌&&◌, ◌||◌, nat_lt, nat_le, List, [], ◌∷◌, ◌++◌, length, map, drop, None, refl, sym, subst, arith, if◌then◌else◌, cond}
+use Rattle.std.proofs.Common.{◌≡◌, ℕ, zero, suc, ◌+◌, ◌-◌, ◌^◌, ◌<◌, ◌≤◌, inl, inr, Bool, true, false, not, ◌&&◌, ◌||◌, nat_lt, nat_le}
+use Rattle.std.proofs.Common.{List, [], ◌∷◌, ◌++◌, length, map, drop, None, refl, sym, subst, arith, if◌then◌else◌, cond}
 use Rattle.std.specs.Prelude.{◌==◌, filter}
 use Rattle.std.specs.List.{range_with_len, list_all}
 use Rattle.std.proofs.lemmas.Bool.{and_parts, leb-true, ltb-true, cases_lt, cases_Bool}
@@ -13,11 +14,14 @@ use Rattle.image_model.specs.declared.error.ElfError.TheVariants.{Dynamic, SegRa
 use Rattle.image_model.specs.Bytes.{AreBytes, lies_in}
 use Rattle.image_model.specs.FileHeader.{e_phnum}
 use Rattle.ordered_tests.specs.Lists.{EachOf, Pairwise}
-use Rattle.image_model.specs.ProgramHeader.{program_header, program_headers, p_offset, p_vaddr, p_filesz, p_memsz, is_load, is_loaded, loads_before}
+use Rattle.image_model.specs.ProgramHeader.{program_header, program_headers, p_offset, p_vaddr, p_filesz, p_memsz, is_load, is_loaded}
+use Rattle.image_model.specs.ProgramHeader.{loads_before}
 use Rattle.image_model.specs.Image.{Image, Segment, segment_at, image_of}
 use Rattle.image_model.specs.Loaded.{HasRange}
 use Rattle.image_model.specs.Segments.{AreSeparate, IsLoadable}
-use Rattle.image_model.specs.Tests.{IsImage, elf_tests, header_tests, kind_tests, size_tests, ident_tests, place_tests, segments_tests, numbered_segment_tests, symtab_tests, table_tests, names_tests, has_range, is_dynamic, total_memsz, are_apart}
+use Rattle.image_model.specs.Tests.{IsImage, elf_tests, header_tests, kind_tests, size_tests, ident_tests, place_tests, segments_tests}
+use Rattle.image_model.specs.Tests.{numbered_segment_tests, symtab_tests, table_tests, names_tests, has_range, is_dynamic, total_memsz}
+use Rattle.image_model.specs.Tests.{are_apart}
 use Rattle.image_model.proofs.Loads.{total_more, loaded_total}
 
 -- ---- the tests of one header

@@ -1,7 +1,8 @@
 -- The number of an error, and the offset in the file that it names.
 use Rattle.std.specs.Prelude.{ℕ}
 use Rattle.image_model.specs.declared.error.ElfError.{ElfError}
-use Rattle.image_model.specs.declared.error.ElfError.TheVariants.{Short, Ident, Kind, Machine, EntrySize, Dynamic, SegRange, SegOverlap, NoSymtab, TwoSymtabs, SymRange, NameEnd, Limit}
+use Rattle.image_model.specs.declared.error.ElfError.TheVariants.{Short, Ident, Kind, Machine, EntrySize, Dynamic, SegRange, SegOverlap}
+use Rattle.image_model.specs.declared.error.ElfError.TheVariants.{NoSymtab, TwoSymtabs, SymRange, NameEnd, Limit}
 
 abbrev pub offset_of : ElfError → ℕ
 offset_of (Short at) = at

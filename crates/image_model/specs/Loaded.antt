@@ -1,5 +1,6 @@
 -- The bytes and the flags that an image loads at an address. System V gABI, "Program Loading".
-use Rattle.std.specs.Prelude.{◌<◌, ◌≤◌, ℕ, ◌+◌, ◌*◌, ◌-◌, ◌/◌, ◌%◌, ◌^◌, Bool, ◌&&◌, ◌==◌, nat_lt, nat_le, if◌then◌else◌, List, length, slice_index, Option, find, option_map, option_and_then}
+use Rattle.std.specs.Prelude.{◌<◌, ◌≤◌, ℕ, ◌+◌, ◌*◌, ◌-◌, ◌/◌, ◌%◌, ◌^◌, Bool, ◌&&◌, ◌==◌, nat_lt, nat_le, if◌then◌else◌, List, length}
+use Rattle.std.specs.Prelude.{slice_index, Option, find, option_map, option_and_then}
 use Rattle.image_model.specs.Bytes.{part}
 use Rattle.image_model.specs.Image.{Image, Segment}
 

@@ -1,10 +1,12 @@
 -- The tests that the bytes of an executable pass, in their order, each with its error.
 -- System V gABI, "ELF Header", "Program Header", "Sections", "Symbol Table", "String Table"; PowerPC psABI, "ELF Header".
-use Rattle.std.specs.Prelude.{◌≡◌, ℕ, ◌+◌, ◌*◌, ◌-◌, ◌%◌, ◌^◌, Bool, not, ◌&&◌, ◌||◌, nat_lt, nat_le, ◌==◌, if◌then◌else◌, List, [], ◌∷◌, ◌++◌, length, slice_index, None}
+use Rattle.std.specs.Prelude.{◌≡◌, ℕ, ◌+◌, ◌*◌, ◌-◌, ◌%◌, ◌^◌, Bool, not, ◌&&◌, ◌||◌, nat_lt, nat_le, ◌==◌, if◌then◌else◌, List, [], ◌∷◌}
+use Rattle.std.specs.Prelude.{◌++◌, length, slice_index, None}
 use Rattle.std.specs.List.{sum_by, list_all}
 use Rattle.ordered_tests.specs.Checks.{Check, check, first_fault, each_check, from_to}
 use Rattle.image_model.specs.declared.error.ElfError.{ElfError}
-use Rattle.image_model.specs.declared.error.ElfError.TheVariants.{Short, Ident, Kind, Machine, EntrySize, Dynamic, SegRange, SegOverlap, NoSymtab, TwoSymtabs, SymRange, NameEnd, Limit}
+use Rattle.image_model.specs.declared.error.ElfError.TheVariants.{Short, Ident, Kind, Machine, EntrySize, Dynamic, SegRange, SegOverlap}
+use Rattle.image_model.specs.declared.error.ElfError.TheVariants.{NoSymtab, TwoSymtabs, SymRange, NameEnd, Limit}
 use Rattle.limits.specs.declared.TheConstants.{MOST_IMAGE_BYTES, MOST_PROGRAM_HEADERS, MOST_LOADED_BYTES}
 use Rattle.image_model.specs.Bytes.{AreBytes, lies_in}
 use Rattle.image_model.specs.FileHeader.{e_type, e_machine, e_phoff, e_shoff, e_ehsize, e_phentsize, e_phnum, e_shentsize, e_shnum}

@@ -2,7 +2,12 @@
 use Rattle.std.proofs.Common.{◌≡◌, refl}
 use Rattle.std.specs.Prelude.{codes, pos, negsuc, slice_index}
 use Rattle.isa_model.specs.Forms.{d_form, x_form, extended, displacement_between}
-use Rattle.isa_model.specs.Instructions.{name_at, alu_imm_names, alu_imm_opcodes, log_imm_names, log_imm_opcodes, log_names, log_opcodes, log_record_bits, rot_names, rot_opcodes, load_names, load_opcodes, cmp_imm_names, cmp_imm_opcodes, move_names, move_opcodes, move_registers, bar_words, blr_word, bctr_word, bctrl_word, trap_word, nop_word, b_name, bl_name, bdnz_name, blr_name, bctr_name, bctrl_name, trap_name, addi_place, addis_place, ori_place, or_place, and_dot_place, rlwinm_place, lwz_place, mtctr_place, cmpwi_place, addi_opcode}
+use Rattle.isa_model.specs.Instructions.{name_at, alu_imm_names, alu_imm_opcodes, log_imm_names, log_imm_opcodes, log_names, log_opcodes}
+use Rattle.isa_model.specs.Instructions.{log_record_bits, rot_names, rot_opcodes, load_names, load_opcodes, cmp_imm_names, cmp_imm_opcodes}
+use Rattle.isa_model.specs.Instructions.{move_names, move_opcodes, move_registers, bar_words, blr_word, bctr_word, bctrl_word, trap_word}
+use Rattle.isa_model.specs.Instructions.{nop_word, b_name, bl_name, bdnz_name, blr_name, bctr_name, bctrl_name, trap_name, addi_place}
+use Rattle.isa_model.specs.Instructions.{addis_place, ori_place, or_place, and_dot_place, rlwinm_place, lwz_place, mtctr_place}
+use Rattle.isa_model.specs.Instructions.{cmpwi_place, addi_opcode}
 
 -- ---- named places: the spelling, and the opcode of the Power ISA
 

@@ -1,5 +1,6 @@
 -- Words and their arithmetic. A word is a number below 2 ^ 32; its bit 0 is the highest. Power ISA 2.07, Book I.
-use Rattle.std.specs.Prelude.{◌≡◌, ℕ, zero, suc, ◌+◌, ◌-◌, ◌*◌, ◌/◌, ◌%◌, ◌^◌, ◌<◌, ℤ, ◌*ℤ◌, Bool, nat_lt, nat_le, if◌then◌else◌, List, [], ◌∷◌}
+use Rattle.std.specs.Prelude.{◌≡◌, ℕ, zero, suc, ◌+◌, ◌-◌, ◌*◌, ◌/◌, ◌%◌, ◌^◌, ◌<◌, ℤ, ◌*ℤ◌, Bool, nat_lt, nat_le, if◌then◌else◌, List, []}
+use Rattle.std.specs.Prelude.{◌∷◌}
 use Rattle.std.specs.Int.{cast_unsigned, cast_signed, w32, w64}
 
 -- a sum or a product as a word

@@ -1,5 +1,6 @@
 -- The readings that the profiles share fail for the causes that these share.
-use Rattle.std.proofs.Common.{◌≡◌, ℕ, ◌+◌, ℤ, pos, negsuc, Bool, true, false, List, [], ◌∷◌, length, Option, Some, None, Result, Ok, Err, refl}
+use Rattle.std.proofs.Common.{◌≡◌, ℕ, ◌+◌, ℤ, pos, negsuc, Bool, true, false, List, [], ◌∷◌, length, Option, Some, None, Result, Ok, Err}
+use Rattle.std.proofs.Common.{refl}
 use Rattle.std.specs.Prelude.{nat_le, int_lt, ◌&&◌, ◌||◌, ◌==◌, ◌/◌, ◌-◌, ◌^◌, slice_index_or, if◌then◌else◌, is_some}
 use Rattle.std.specs.List.{list_all}
 use Rattle.std.specs.Str.{bytes_eq}
@@ -12,7 +13,8 @@ use Rattle.json_tree.specs.declared.fault.Cause.{Cause}
 use Rattle.json_tree.specs.declared.fault.Cause.TheVariants.{Missing, WrongKind, OutOfRange, UnknownWord, Version, Limit}
 use Rattle.json_tree.specs.declared.fault.Fault.{Fault}
 use Rattle.json_tree.specs.Causes.{is_shared_cause, FailsBy}
-use Rattle.json_tree.specs.Reading.{◌>>=◌, ◌>>◌, under, of_kind, if_there, object, boolean, text, or_null, field, name, stated, look_up, known, word_of}
+use Rattle.json_tree.specs.Reading.{◌>>=◌, ◌>>◌, under, of_kind, if_there, object, boolean, text, or_null, field, name, stated, look_up}
+use Rattle.json_tree.specs.Reading.{known, word_of}
 use Rattle.json_tree.specs.Arrays.{items, limited, each_from, list, counted, tuple, nth, chosen}
 use Rattle.json_tree.specs.Numbers.{integer, ranged, up_to, natural, wrapped, word, unsigned32, unsigned16, signed32}
 use Rattle.json_tree.specs.Addresses.{is_hex_digit, address_text, address_of, address}

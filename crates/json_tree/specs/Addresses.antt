@@ -1,5 +1,6 @@
 -- Addresses: an integer of 32 bits, or a text `0x` with 1 to 8 hexadecimal digits of either case.
-use Rattle.std.specs.Prelude.{ℕ, ◌+◌, ◌-◌, ◌*◌, Bool, List, ◌∷◌, length, Option, Some, None, Result, Ok, nat_le, ◌==◌, ◌&&◌, ◌||◌, fold, if◌then◌else◌}
+use Rattle.std.specs.Prelude.{ℕ, ◌+◌, ◌-◌, ◌*◌, Bool, List, ◌∷◌, length, Option, Some, None, Result, Ok, nat_le, ◌==◌, ◌&&◌, ◌||◌, fold}
+use Rattle.std.specs.Prelude.{if◌then◌else◌}
 use Rattle.std.specs.List.{list_all}
 use Rattle.serde_json.specs.Data.{Data}
 use Rattle.serde_json.specs.Find.{as_str}

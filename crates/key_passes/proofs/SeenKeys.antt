@@ -5,17 +5,13 @@ use Rattle.std.specs.Prelude.{slice_get, ◌||◌, ◌&&◌, ◌==◌}
 use Rattle.std.specs.List.{list_any, enumerate_from}
 use Rattle.std.proofs.lemmas.List.Folds.{list_any-append}
 use Rattle.ordered_tests.proofs.Lists.{number_get}
+use Rattle.elf_view.proofs.ByAddressLemmas.{take_one}
 use Rattle.asm_syntax.specs.declared.unit.External.{External}
 use Rattle.link_model.specs.Program.{Item, OfFunction, OfVariable, OfExternal, Declaration, is_external, keys}
 use Rattle.link_model.specs.Candidates.{Inputs}
 use Rattle.link_model.specs.Binding.{numbered_keys, key_address}
 use Rattle.link_model.specs.Passes.{is_external_at}
 use Rattle.key_passes.specs.Externals.{AreSeen}
-
-take_get : {X : Type 0} (xs : List X) (k : ℕ) (x : X) → slice_get xs k ≡ Some x → take (k + 1) xs ≡ take k xs ++ x ∷ []
-take_get [] k x h = absurd (cc)
-take_get (y ∷ ys) zero x h = let e : y ≡ x = cc in ap (λ z. z ∷ []) e
-take_get (y ∷ ys) (suc k) x h = let e : suc k + 1 ≡ suc (k + 1) = omega arith in rw e (ap (λ z. y ∷ z) (take_get ys k x h))
 
 or_none : (b : Bool) → (b || false) ≡ b
 or_none true = refl
@@ -32,7 +28,7 @@ any_more : (g : Inputs) (p : ℕ × Declaration → Bool) (k : ℕ) (d : Declara
 any_more g p k d here =
     let at : slice_get (numbered_keys g) k ≡ Some (k, d) =
     number_get 0 (keys g.program.units) k d here ∙ ap (λ (n : ℕ). Some (n, d)) (omega arith) in
-    ap (list_any p) (take_get (numbered_keys g) k (k, d) at)
+    ap (list_any p) (take_one (numbered_keys g) k (k, d) at)
     ∙ (list_any-append p (take k (numbered_keys g)) ((k, d) ∷ []) ∙ or_turn (list_any p (take k (numbered_keys g))) (p (k, d)))
 
 -- one more key, an external with this address

@@ -16,6 +16,7 @@ use Rattle.link_model.specs.Candidates.{Inputs}
 use Rattle.link_model.specs.Passes.{at_key, item_external_checks, item_function_checks, item_variable_checks}
 use Rattle.key_passes.specs.declared.fault.CheckFault.{CheckFault}
 use Rattle.key_passes.specs.declared.fault.CheckFault.TheVariants.{No, Memory}
+use Rattle.expansions.proofs.Walks.{at_get}
 use Rattle.key_passes.specs.Answers.{Decides, fault_of}
 
 -- ---- what the elements from the place k on give, by their places
@@ -23,14 +24,9 @@ use Rattle.key_passes.specs.Answers.{Decides, fault_of}
 abbrev pub given_from : {X Y : Type 0} → (ℕ × X → List Y) → List X → ℕ → List Y
 given_from f xs k = flat_map f (enumerate_from k (drop k xs))
 
-drop_get : {X : Type 0} (xs : List X) (k : ℕ) (x : X) → slice_get xs k ≡ Some x → drop k xs ≡ x ∷ drop (k + 1) xs
-drop_get [] k x h = absurd (cc)
-drop_get (y ∷ ys) zero x h = let e : y ≡ x = cc in ap (λ z. z ∷ ys) e
-drop_get (y ∷ ys) (suc k) x h = let e : suc k + 1 ≡ suc (k + 1) = omega arith in rw e (drop_get ys k x h)
-
 pub given_step : {X Y : Type 0} (f : ℕ × X → List Y) (xs : List X) (k : ℕ) (x : X) → slice_get xs k ≡ Some x
     → given_from f xs k ≡ f (k, x) ++ given_from f xs (k + 1)
-given_step f xs k x h = ap (λ l. flat_map f (enumerate_from k l)) (drop_get xs k x h)
+given_step f xs k x h = ap (λ l. flat_map f (enumerate_from k l)) (at_get xs k x h)
 
 pub given_end : {X Y : Type 0} (f : ℕ × X → List Y) (xs : List X) (k : ℕ) → length xs ≤ k → given_from f xs k ≡ []
 given_end f xs k le = ap (λ l. flat_map f (enumerate_from k l)) (drop_all k xs le)
@@ -114,7 +110,7 @@ pub count_more : {X Y : Type 0} (f : X → List Y) (xs : List X) (k : ℕ) (x : 
     → one ≡ length (f x) → count + length (flat_map f (drop k xs)) ≡ total → count + one + length (flat_map f (drop (k + 1) xs)) ≡ total
 count_more f xs k x count one total here is so_far =
     let e : length (flat_map f (drop k xs)) ≡ length (f x) + length (flat_map f (drop (k + 1) xs)) =
-    ap (λ l. length (flat_map f l)) (drop_get xs k x here) ∙ length-append (f x) (flat_map f (drop (k + 1) xs)) in
+    ap (λ l. length (flat_map f l)) (at_get xs k x here) ∙ length-append (f x) (flat_map f (drop (k + 1) xs)) in
     omega arith
 
 pub count_end : {X Y : Type 0} (f : X → List Y) (xs : List X) (k count total : ℕ) → length xs ≤ k

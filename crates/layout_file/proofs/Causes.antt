@@ -7,14 +7,16 @@ use Rattle.asm_syntax.specs.Names.{is_name_byte}
 use Rattle.asm_syntax.specs.declared.path.Step.TheVariants.{Key, Index}
 use Rattle.ordered_tests.specs.Checks.{Check, first_fault}
 use Rattle.ordered_tests.specs.Steps.{◌>>◌, unless, all_pass}
-use Rattle.json_tree.specs.declared.fault.Cause.TheVariants.{Missing, WrongKind, OutOfRange, UnknownWord, Version, Shape, Refused, RangeOrder, Unaligned, Limit}
+use Rattle.json_tree.specs.declared.fault.Cause.TheVariants.{Missing, WrongKind, OutOfRange, UnknownWord, Version, Shape, Refused}
+use Rattle.json_tree.specs.declared.fault.Cause.TheVariants.{RangeOrder, Unaligned, Limit}
 use Rattle.json_tree.specs.declared.fault.Fault.{Fault}
 use Rattle.json_tree.specs.Causes.{FailsBy}
 use Rattle.json_tree.specs.Reading.{under, object, field, text, or_null, name, word_of}
 use Rattle.json_tree.specs.Arrays.{items, limited, list, tuple, nth}
 use Rattle.json_tree.specs.Addresses.{address}
 use Rattle.json_tree.specs.Profile.{header}
-use Rattle.json_tree.proofs.Causes.{AllowsShared, after, behind, below, choice, at_item, of_object, of_text, of_name, of_word, of_null, at_field, of_items, of_limited, of_list, of_tuple, of_address, of_header}
+use Rattle.json_tree.proofs.Causes.{AllowsShared, after, behind, below, choice, at_item, of_object, of_text, of_name, of_word, of_null}
+use Rattle.json_tree.proofs.Causes.{at_field, of_items, of_limited, of_list, of_tuple, of_address, of_header}
 use Rattle.limits.specs.declared.TheConstants.{MOST_AREAS, MOST_FOREIGN_RANGES, MOST_PINS}
 use Rattle.layout_file.specs.Causes.{is_layout_cause}
 use Rattle.layout_model.specs.Layouts.{Pin}

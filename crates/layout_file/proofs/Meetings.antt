@@ -1,6 +1,7 @@
 -- Ranges that are tested pair by pair.
 use Rattle.std.proofs.Common.{◌≡◌, ℕ, ◌+◌, ◌<◌, Bool, true, false, List, [], length, get_or, map, Some, None, Ok, refl, sym, ap, subst, ◌∙◌}
 use Rattle.std.specs.Prelude.{not}
+use Rattle.std.proofs.lemmas.Bool.{not-true}
 use Rattle.std.proofs.lemmas.List.{get_or-map}
 use Rattle.word_ops.specs.Ranges.{Extent, extent, meets}
 use Rattle.word_ops.specs.Seen.{extent_of}
@@ -14,15 +15,11 @@ use Rattle.layout_model.specs.Layouts.{Layout, ranges}
 use Rattle.layout_model.specs.Facts.{AreApart, ArePairwiseApart, AreParts, IsLayout}
 use Rattle.layout_file.specs.LayoutFile.{Meet, range_at, pair_test, earlier_tests, apart_tests}
 
-opposite : (b : Bool) → not b ≡ true → b ≡ false
-opposite true h = absurd (cc)
-opposite false h = refl
-
 pub apart_from_tests : (ranges : List Extent) → first_fault (apart_tests ranges) ≡ None → ArePairwiseApart ranges
 apart_from_tests ranges h = pairs_by_place AreApart ranges (extent 0 0) (λ i j before below.
     let later = number_passes (earlier_tests ranges) (length ranges) j h below in
     let pair = number_passes (pair_test ranges j) j i later before in
-    opposite (meets (range_at ranges i) (range_at ranges j)) (
+    not-true (meets (range_at ranges i) (range_at ranges j)) (
     head_passes (check (not (meets (range_at ranges i) (range_at ranges j))) (Meet i j)) [] pair))
 
 -- ---- the ranges as the code has them

@@ -8,7 +8,8 @@ use Rattle.std.specs.BTreeSet.{replace_key}
 use Rattle.std.proofs.lemmas.Bool.{and_parts, leb-true, ltb-true, eqb-true}
 use Rattle.serde_json.specs.Data.{Data}
 use Rattle.word_ops.specs.Ranges.{Extent}
-use Rattle.limits.specs.declared.TheConstants.{LEAST_STACK_BYTES, MOST_STACK_BYTES, MOST_RANGE_END, MOST_AREAS, MOST_FOREIGN_RANGES, MOST_PINS}
+use Rattle.limits.specs.declared.TheConstants.{LEAST_STACK_BYTES, MOST_STACK_BYTES, MOST_RANGE_END, MOST_AREAS, MOST_FOREIGN_RANGES}
+use Rattle.limits.specs.declared.TheConstants.{MOST_PINS}
 use Rattle.ordered_tests.specs.Checks.{check, first_fault}
 use Rattle.ordered_tests.proofs.Faults.{head_passes, rest_passes, front_passes}
 use Rattle.ordered_tests.proofs.Steps.{if_bind, if_next, if_then, if_passed}

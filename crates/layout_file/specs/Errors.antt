@@ -3,7 +3,8 @@ use Rattle.std.specs.Prelude.{ℕ, Option, Some, None, Result}
 use Rattle.ordered_tests.specs.Answers as answers
 use Rattle.json_tree.specs.declared.fault.Cause.TheVariants as causes
 use Rattle.layout_file.specs.declared.error.LayoutError.{LayoutError}
-use Rattle.layout_file.specs.declared.error.LayoutError.TheVariants.{NotJson, Missing, WrongKind, OutOfRange, UnknownWord, Version, RangeOrder, RangeMeets, Unaligned, Memory, Limit}
+use Rattle.layout_file.specs.declared.error.LayoutError.TheVariants.{NotJson, Missing, WrongKind, OutOfRange, UnknownWord, Version}
+use Rattle.layout_file.specs.declared.error.LayoutError.TheVariants.{RangeOrder, RangeMeets, Unaligned, Memory, Limit}
 use Rattle.layout_file.specs.LayoutFile.{Refusal, NoTree, At, Meet}
 
 -- each error tells one refusal, want of memory none

@@ -2,7 +2,8 @@
 use Rattle.std.specs.Prelude.{◌≡◌, ℕ, ◌+◌, ◌%◌, ◌<◌, ◌≤◌, false, List, length}
 use Rattle.word_ops.specs.Ranges.{Extent, meets}
 use Rattle.ordered_tests.specs.Lists.{EachOf, Pairwise}
-use Rattle.limits.specs.declared.TheConstants.{LEAST_STACK_BYTES, MOST_STACK_BYTES, MOST_RANGE_END, MOST_AREAS, MOST_FOREIGN_RANGES, MOST_PINS}
+use Rattle.limits.specs.declared.TheConstants.{LEAST_STACK_BYTES, MOST_STACK_BYTES, MOST_RANGE_END, MOST_AREAS, MOST_FOREIGN_RANGES}
+use Rattle.limits.specs.declared.TheConstants.{MOST_PINS}
 use Rattle.layout_model.specs.Layouts.{Area, Layout, ranges}
 
 -- a range of a layout has an address, and neither address 0 nor the last ones

@@ -1,5 +1,6 @@
 -- The addresses of a function's instructions.
-use Rattle.std.proofs.Common.{◌≡◌, ℕ, zero, suc, ◌+◌, ◌*◌, ◌%◌, ◌<◌, ◌≤◌, Bool, true, false, List, [], ◌∷◌, length, Some, None, refl, ◌∙◌, ap, arith, if◌then◌else◌}
+use Rattle.std.proofs.Common.{◌≡◌, ℕ, zero, suc, ◌+◌, ◌*◌, ◌%◌, ◌<◌, ◌≤◌, Bool, true, false, List, [], ◌∷◌, length, Some, None, refl, ◌∙◌}
+use Rattle.std.proofs.Common.{ap, arith, if◌then◌else◌}
 use Rattle.std.specs.Prelude.{Option, slice_get, is_some, unwrap_or}
 use Rattle.image_model.specs.Image.{Image}
 use Rattle.asm_syntax.specs.declared.instr.Instr.{Instr}

@@ -1,5 +1,6 @@
 -- The tests of one function pass exactly where it is placed, and its code and its tables stand.
-use Rattle.std.proofs.Common.{◌≡◌, ℕ, zero, suc, ◌+◌, ◌-◌, ◌*◌, ◌%◌, ◌<◌, true, ◌&&◌, List, [], ◌∷◌, length, Some, refl, sym, ◌∙◌, ap, subst, arith}
+use Rattle.std.proofs.Common.{◌≡◌, ℕ, zero, suc, ◌+◌, ◌-◌, ◌*◌, ◌%◌, ◌<◌, true, ◌&&◌, List, [], ◌∷◌, length, Some, refl, sym, ◌∙◌, ap}
+use Rattle.std.proofs.Common.{subst, arith}
 use Rattle.std.specs.Prelude.{Option, is_some, slice_get, ◌==◌}
 use Rattle.std.proofs.lemmas.Bool.{and_parts, and_from, eqb-true, eq-eqb}
 use Rattle.ordered_tests.specs.Checks.{from_to}
@@ -17,7 +18,8 @@ use Rattle.code_model.specs.WordChecks.{words_checks}
 use Rattle.code_model.specs.Addresses.{loaded_word, words_from, are_loaded, address_after, instr_address, code_end, label_address}
 use Rattle.code_model.specs.Areas.{is_table_kind, is_in_one_area}
 use Rattle.code_model.specs.Code.{target, IsTable, is_spelt_at, table_address}
-use Rattle.code_model.specs.FunctionChecks.{byte_check, byte_checks, place_checks, table_word_checks, table_checks, jump_checks, instr_checks, code_checks, function_checks}
+use Rattle.code_model.specs.FunctionChecks.{byte_check, byte_checks, place_checks, table_word_checks, table_checks, jump_checks}
+use Rattle.code_model.specs.FunctionChecks.{instr_checks, code_checks, function_checks}
 use Rattle.link_model.specs.Candidates.{Inputs}
 use Rattle.link_model.specs.Binding.{symbol_address}
 use Rattle.link_model.specs.Parts.{IsPlaced, IsCode}

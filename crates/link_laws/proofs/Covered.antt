@@ -1,5 +1,6 @@
 -- Each loaded address lies in an area or in a foreign range, so off the stack and off the stop point.
-use Rattle.std.proofs.Common.{◌≡◌, ℕ, zero, suc, ◌+◌, ◌-◌, ◌%◌, ◌<◌, inl, inr, Bool, true, false, ◌&&◌, List, [], ◌∷◌, length, position, get_or, Some, None, refl, arith}
+use Rattle.std.proofs.Common.{◌≡◌, ℕ, zero, suc, ◌+◌, ◌-◌, ◌%◌, ◌<◌, inl, inr, Bool, true, false, ◌&&◌, List, [], ◌∷◌, length, position}
+use Rattle.std.proofs.Common.{get_or, Some, None, refl, arith}
 use Rattle.std.specs.Prelude.{Option, slice_get, flat_map, ◌==◌}
 use Rattle.std.specs.List.{list_any}
 use Rattle.std.specs.Option.{option_map_or}

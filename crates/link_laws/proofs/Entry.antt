@@ -1,5 +1,6 @@
 -- The entry of linked units is a key, and a function.
-use Rattle.std.proofs.Common.{◌≡◌, ℕ, zero, suc, ◌<◌, inl, inr, Bool, true, false, not, ◌&&◌, ◌||◌, List, [], ◌∷◌, get_or, take, Some, refl, sym, ◌∙◌, ap, subst, cond}
+use Rattle.std.proofs.Common.{◌≡◌, ℕ, zero, suc, ◌<◌, inl, inr, Bool, true, false, not, ◌&&◌, ◌||◌, List, [], ◌∷◌, get_or, take, Some}
+use Rattle.std.proofs.Common.{refl, sym, ◌∙◌, ap, subst, cond}
 use Rattle.std.specs.Prelude.{slice_get, filter}
 use Rattle.std.specs.List.{list_any, enumerate_from}
 use Rattle.std.specs.Str.{bytes_eq}
@@ -15,7 +16,9 @@ use Rattle.asm_syntax.specs.declared.unit.Variable.{Variable}
 use Rattle.asm_syntax.specs.declared.unit.Unit.{Unit}
 use Rattle.link_model.specs.declared.link_error.LinkError.{LinkError}
 use Rattle.link_model.specs.declared.link_error.LinkError.TheVariants.{DefinedTwice}
-use Rattle.link_model.specs.Program.{Program, Item, OfFunction, OfVariable, OfExternal, Declaration, name_of, is_static, is_external, is_global_definition, declarations, defines_global, stays_external, is_key, same_key, keys, is_global_named, joins}
+use Rattle.link_model.specs.Program.{Program, Item, OfFunction, OfVariable, OfExternal, Declaration, name_of, is_static, is_external}
+use Rattle.link_model.specs.Program.{is_global_definition, declarations, defines_global, stays_external, is_key, same_key, keys}
+use Rattle.link_model.specs.Program.{is_global_named, joins}
 use Rattle.link_model.specs.Numbers.{is_entry, entry_key}
 use Rattle.link_model.specs.LinkTests.{is_like_earlier, definition_tests, IsLinked}
 use Rattle.link_laws.specs.Laws.{of_function, HasEntry}

@@ -1,5 +1,6 @@
 -- Where operands are in their ranges, each form of an instruction's words is an instruction.
-use Rattle.std.proofs.Common.{◌≡◌, ℕ, ◌+◌, ◌-◌, ◌/◌, ◌%◌, ◌^◌, ◌<◌, ◌≤◌, ℤ, Bool, true, false, ◌&&◌, List, refl, subst, arith, if◌then◌else◌}
+use Rattle.std.proofs.Common.{◌≡◌, ℕ, ◌+◌, ◌-◌, ◌/◌, ◌%◌, ◌^◌, ◌<◌, ◌≤◌, ℤ, Bool, true, false, ◌&&◌, List, refl, subst, arith}
+use Rattle.std.proofs.Common.{if◌then◌else◌}
 use Rattle.std.specs.Prelude.{pos, negsuc, nat_lt, nat_le, ◌==◌}
 use Rattle.std.proofs.lemmas.Bool.{and_parts, and_from, lt-ltb, leb-true}
 use Rattle.std.proofs.lemmas.Bool.Decides.{nat_tests}
@@ -26,9 +27,13 @@ use Rattle.asm_syntax.specs.declared.instr.Instr.TheVariants as instrs
 use Rattle.asm_syntax.specs.Places.{alu_imm_place, load_place, store_place}
 use Rattle.asm_shapes.specs.Operands.{is_alu_constant, is_address_constant, is_compared, plain_in_range, instr_in_range}
 use Rattle.code_model.specs.Fields.{base_field, short, half_field, address_plus}
-use Rattle.code_model.specs.Forms.{Form, near, far, free, constant_form, jump_form, plain_form, addi, addis, ori, lwz, two_halves, word_forms, negated, alloc_forms, is_addi, free_forms, is_bc, branch_forms, table_forms, bit_forms, forms}
+use Rattle.code_model.specs.Forms.{Form, near, far, free, constant_form, jump_form, plain_form, addi, addis, ori, lwz, two_halves}
+use Rattle.code_model.specs.Forms.{word_forms, negated, alloc_forms, is_addi, free_forms, is_bc, branch_forms, table_forms, bit_forms}
+use Rattle.code_model.specs.Forms.{forms}
 use Rattle.link_laws.specs.Operands.{plain_is_typed, instr_is_typed, HasWords}
-use Rattle.link_laws.proofs.Places.{alu_imm_placed, log_imm_placed, alu_placed, alu2_placed, log_placed, log2_placed, rot_placed, load_placed, store_placed, load_x_placed, store_x_placed, cmp_placed, cr_bit_placed, move_placed, bar_placed}
+use Rattle.link_laws.proofs.Places.{alu_imm_placed, log_imm_placed, alu_placed, alu2_placed, log_placed, log2_placed, rot_placed}
+use Rattle.link_laws.proofs.Places.{load_placed, store_placed, load_x_placed, store_x_placed, cmp_placed, cr_bit_placed, move_placed}
+use Rattle.link_laws.proofs.Places.{bar_placed}
 
 -- ---- fields
 

@@ -11,7 +11,8 @@ use Rattle.asm_syntax.specs.declared.unit.Unit.{Unit}
 use Rattle.asm_shapes.specs.Shapes.{is_valid_code, HasShape}
 use Rattle.asm_shapes.specs.Units.{unit_fits, function_fits, variable_fits, external_fits, counts_fit, are_distinct, unit_names, table_fits}
 use Rattle.asm_shapes.proofs.ShapeLemmas.{valid_shape}
-use Rattle.link_model.specs.Program.{Item, OfFunction, OfVariable, OfExternal, Declaration, unit_declarations, declarations, is_key, same_key, keys}
+use Rattle.link_model.specs.Program.{Item, OfFunction, OfVariable, OfExternal, Declaration, unit_declarations, declarations, is_key}
+use Rattle.link_model.specs.Program.{same_key, keys}
 use Rattle.link_laws.specs.Laws.{of_function}
 use Rattle.link_laws.proofs.Items.{each_item, each_mapped, each_filter, each_first, each_of_all, flat_each, number_from}
 

@@ -17,9 +17,11 @@ use Rattle.asm_syntax.specs.Instructions.{instr_symbol}
 use Rattle.asm_syntax.specs.Sizes.{init_symbol}
 use Rattle.link_model.specs.declared.link_error.LinkError.{LinkError}
 use Rattle.link_model.specs.declared.link_error.LinkError.TheVariants.{Undeclared}
-use Rattle.link_model.specs.Program.{Program, Declaration, names_in, function_names, variable_names, names_used, defines, declares, declarations, keys, resolve}
+use Rattle.link_model.specs.Program.{Program, Declaration, names_in, function_names, variable_names, names_used, defines, declares}
+use Rattle.link_model.specs.Program.{declarations, keys, resolve}
 use Rattle.link_model.specs.Numbers.{is_entry}
-use Rattle.link_model.specs.LinkTests.{unit_tests, definition_tests, unit_name_tests, name_tests, sig_tests, entry_test, size_tests, link_tests, IsLinked}
+use Rattle.link_model.specs.LinkTests.{unit_tests, definition_tests, unit_name_tests, name_tests, sig_tests, entry_test, size_tests}
+use Rattle.link_model.specs.LinkTests.{link_tests, IsLinked}
 use Rattle.link_laws.specs.Laws.{of_function, of_variable, HasNames}
 use Rattle.link_laws.proofs.Items.{each_unmapped, any_flat, any_left, any_right}
 use Rattle.link_laws.proofs.Keys.{key_in}

@@ -1,5 +1,6 @@
 -- A name that a unit uses, and that it defines or declares, means a key.
-use Rattle.std.proofs.Common.{◌≡◌, ℕ, zero, suc, ◌<◌, ◌⊎◌, inl, inr, Bool, true, false, not, ◌&&◌, ◌||◌, List, [], ◌∷◌, length, map, position, Some, refl, sym, ◌∙◌, ap, subst, arith, if◌then◌else◌, cond}
+use Rattle.std.proofs.Common.{◌≡◌, ℕ, zero, suc, ◌<◌, ◌⊎◌, inl, inr, Bool, true, false, not, ◌&&◌, ◌||◌, List, [], ◌∷◌, length, map}
+use Rattle.std.proofs.Common.{position, Some, refl, sym, ◌∙◌, ap, subst, arith, if◌then◌else◌, cond}
 use Rattle.std.specs.Prelude.{slice_get, filter, ◌==◌}
 use Rattle.std.specs.List.{list_any, enumerate_from, position_or_len}
 use Rattle.std.specs.Str.{bytes_eq}
@@ -10,7 +11,10 @@ use Rattle.asm_syntax.specs.declared.unit.Variable.{Variable}
 use Rattle.asm_syntax.specs.declared.unit.External.{External}
 use Rattle.asm_syntax.specs.declared.unit.Unit.{Unit}
 use Rattle.link_model.specs.Sets.{first_of_each}
-use Rattle.link_model.specs.Program.{Item, OfFunction, OfVariable, OfExternal, Declaration, name_of, item_is_static, is_static, is_external, is_global_definition, unit_declarations, declarations, names_used, defines, declares, defines_global, is_referred, stays_external, is_key, same_key, keys, is_static_named, is_global_named, unit_declares, resolve}
+use Rattle.link_model.specs.Program.{Item, OfFunction, OfVariable, OfExternal, Declaration, name_of, item_is_static, is_static}
+use Rattle.link_model.specs.Program.{is_external, is_global_definition, unit_declarations, declarations, names_used, defines, declares}
+use Rattle.link_model.specs.Program.{defines_global, is_referred, stays_external, is_key, same_key, keys, is_static_named, is_global_named}
+use Rattle.link_model.specs.Program.{unit_declares, resolve}
 use Rattle.link_laws.specs.Laws.{of_function, of_variable}
 use Rattle.link_laws.proofs.Items.{any_get, any_item, any_left, any_right, any_flat}
 use Rattle.link_laws.proofs.KeyTests.{numbered}

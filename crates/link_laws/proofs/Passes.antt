@@ -21,7 +21,8 @@ use Rattle.link_model.specs.Claims.{claims}
 use Rattle.link_model.specs.Kinds.{NoneStray}
 use Rattle.link_model.specs.Overlaps.{overlap_pass}
 use Rattle.link_model.specs.Parts.{IsKey, IsEntered, alignment, PartsHold}
-use Rattle.link_model.specs.Passes.{at_key, each_key, entry_pass, bound_checks, bound_pass, external_checks, item_external_checks, external_pass, item_function_checks, function_pass, item_variable_checks, variable_pass, key_passes}
+use Rattle.link_model.specs.Passes.{at_key, each_key, entry_pass, bound_checks, bound_pass, external_checks, item_external_checks}
+use Rattle.link_model.specs.Passes.{external_pass, item_function_checks, function_pass, item_variable_checks, variable_pass, key_passes}
 use Rattle.link_laws.proofs.Items.{each_item, each_mapped, each_unmapped, flat_each, each_of_all, all_of_each}
 use Rattle.link_laws.proofs.Apartness.{numbered_key}
 use Rattle.link_laws.proofs.Words.{Passes}

@@ -1,6 +1,8 @@
 -- Each mnemonic of a dump has its place in the row of its class.
 use Rattle.std.proofs.Common.{◌≡◌, true, refl}
-use Rattle.isa_model.specs.Instructions.{alu_imm_opcodes, log_imm_opcodes, alu_opcodes, alu2_opcodes, log_opcodes, log2_opcodes, rot_opcodes, load_opcodes, store_opcodes, load_x_opcodes, store_x_opcodes, cmp_opcodes, cmp_imm_opcodes, cr_bit_opcodes, move_opcodes, bar_words}
+use Rattle.isa_model.specs.Instructions.{alu_imm_opcodes, log_imm_opcodes, alu_opcodes, alu2_opcodes, log_opcodes, log2_opcodes}
+use Rattle.isa_model.specs.Instructions.{rot_opcodes, load_opcodes, store_opcodes, load_x_opcodes, store_x_opcodes, cmp_opcodes}
+use Rattle.isa_model.specs.Instructions.{cmp_imm_opcodes, cr_bit_opcodes, move_opcodes, bar_words}
 use Rattle.ppc_decode.specs.Word.{is_place}
 use Rattle.asm_syntax.specs.declared.operations.AluImmOp.{AluImmOp}
 use Rattle.asm_syntax.specs.declared.operations.AluImmOp.TheVariants as AluImmOps
@@ -34,7 +36,9 @@ use Rattle.asm_syntax.specs.declared.operations.MoveOp.{MoveOp}
 use Rattle.asm_syntax.specs.declared.operations.MoveOp.TheVariants as MoveOps
 use Rattle.asm_syntax.specs.declared.operations.BarOp.{BarOp}
 use Rattle.asm_syntax.specs.declared.operations.BarOp.TheVariants as BarOps
-use Rattle.asm_syntax.specs.Places.{alu_imm_place, log_imm_place, alu_place, alu2_place, log_place, log2_place, rot_place, load_place, store_place, load_x_place, store_x_place, cmp_place, cmp_imm_place, cr_bit_place, move_place, bar_place}
+use Rattle.asm_syntax.specs.Places.{alu_imm_place, log_imm_place, alu_place, alu2_place, log_place, log2_place, rot_place, load_place}
+use Rattle.asm_syntax.specs.Places.{store_place, load_x_place, store_x_place, cmp_place, cmp_imm_place, cr_bit_place, move_place}
+use Rattle.asm_syntax.specs.Places.{bar_place}
 
 pub alu_imm_placed : (op : AluImmOp) → is_place (alu_imm_place op) alu_imm_opcodes ≡ true
 alu_imm_placed AluImmOps.Mulli = refl

@@ -8,7 +8,8 @@ use Rattle.layout_model.specs.Facts.{AreApart, IsRange, IsLayout}
 use Rattle.layout_model.specs.Layouts.{Area, Layout, is_foreign, area_range, stop_range}
 use Rattle.ordered_tests.specs.Lists.{EachOf}
 use Rattle.word_ops.specs.Ranges.{Extent, holds, is_inside, meets}
-use Rattle.ordered_tests.proofs.Lists.{each_any, each_both, each_left, each_of_map, each_none, each_right, each_weak, pairs_across, pairs_right}
+use Rattle.ordered_tests.proofs.Lists.{each_any, each_both, each_left, each_of_map, each_none, each_right, each_weak, pairs_across}
+use Rattle.ordered_tests.proofs.Lists.{pairs_right}
 use Rattle.code_model.specs.Areas.{is_in_one_area}
 
 -- of two ranges that do not meet, only one holds an address

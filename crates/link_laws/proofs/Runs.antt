@@ -1,11 +1,13 @@
 -- Each loaded address is in exactly one run of its kind.
-use Rattle.std.proofs.Common.{◌≡◌, ℕ, zero, suc, ◌+◌, ◌-◌, ◌<◌, ◌≤◌, inl, inr, Bool, true, false, ◌&&◌, List, [], ◌∷◌, ◌++◌, length, map, Some, None, refl, sym, ◌∙◌, ap, subst, arith, if◌then◌else◌, slice_index_or, slice_set}
+use Rattle.std.proofs.Common.{◌≡◌, ℕ, zero, suc, ◌+◌, ◌-◌, ◌<◌, ◌≤◌, inl, inr, Bool, true, false, ◌&&◌, List, [], ◌∷◌, ◌++◌, length, map}
+use Rattle.std.proofs.Common.{Some, None, refl, sym, ◌∙◌, ap, subst, arith, if◌then◌else◌, slice_index_or, slice_set}
 use Rattle.std.specs.Prelude.{Option, slice_get, nat_lt, ◌==◌}
 use Rattle.std.specs.List.{list_any}
 use Rattle.std.proofs.lemmas.Bool.{and_parts, or_cases, cases_eq, cases_order, eqb-true, lt-ltb}
 use Rattle.word_ops.specs.Ranges.{extent, holds}
 use Rattle.ordered_tests.specs.Lists.{EachOf, Pairwise}
-use Rattle.ordered_tests.proofs.Lists.{each_append, each_get, each_weak, each_left, each_right, pairs_append, pairs_left, pairs_across, pairs_get}
+use Rattle.ordered_tests.proofs.Lists.{each_append, each_get, each_weak, each_left, each_right, pairs_append, pairs_left, pairs_across}
+use Rattle.ordered_tests.proofs.Lists.{pairs_get}
 use Rattle.image_model.specs.Image.{Image}
 use Rattle.image_model.specs.Loaded.{byte_at}
 use Rattle.layout_model.specs.Layouts.{Layout}

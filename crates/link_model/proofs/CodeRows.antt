@@ -10,7 +10,8 @@ use Rattle.asm_syntax.specs.declared.instr.Instr.TheVariants.{Plain, AllocFrame,
 use Rattle.code_model.specs.WordChecks.{spot}
 use Rattle.link_model.specs.Candidates.{Inputs}
 use Rattle.link_model.specs.Passes.{nowhere}
-use Rattle.link_model.proofs.RowParts.{answer, none, in_main, global, segment, text, layout, main_unit, inputs, code_alone, addi, blr, seven}
+use Rattle.link_model.proofs.RowParts.{answer, none, in_main, global, segment, text, layout, main_unit, inputs, code_alone, addi, blr}
+use Rattle.link_model.proofs.RowParts.{seven}
 
 -- ---- a constant; an image that is entered elsewhere; a function at an odd place, outside its area, and in a segment without PF_X
 

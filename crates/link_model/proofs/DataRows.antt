@@ -18,7 +18,8 @@ use Rattle.link_model.specs.declared.fault.Fault.{Fault}
 use Rattle.link_model.specs.Candidates.{Inputs}
 use Rattle.link_model.specs.Binding.{addresses}
 use Rattle.link_model.specs.Overlaps.{fault_at}
-use Rattle.link_model.proofs.RowParts.{answer, none, in_main, segment, text, global, local, image, area, layout, function, variable, unit, main_unit, inputs, addis_ha, addi_lo, blr, seven}
+use Rattle.link_model.proofs.RowParts.{answer, none, in_main, segment, text, global, local, image, area, layout, function, variable, unit}
+use Rattle.link_model.proofs.RowParts.{main_unit, inputs, addis_ha, addi_lo, blr, seven}
 
 -- ---- a load by two halves: right, with the half that @h gives, and with another register besides
 

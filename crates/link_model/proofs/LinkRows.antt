@@ -29,7 +29,8 @@ use Rattle.link_model.specs.Numbers.{functions, variables, externals, key_of, ki
 use Rattle.link_model.specs.LinkTests.{link_tests}
 use Rattle.link_model.specs.Candidates.{Inputs}
 use Rattle.link_model.specs.Overlaps.{fault_at}
-use Rattle.link_model.proofs.RowParts.{answer, none, in_main, segment, text, global, local, image, area, layout, function, variable, external, empty_sig, unit, main_unit, inputs, addi, addis_ha, addi_lo, bs, bl, blr, seven}
+use Rattle.link_model.proofs.RowParts.{answer, none, in_main, segment, text, global, local, image, area, layout, function, variable}
+use Rattle.link_model.proofs.RowParts.{external, empty_sig, unit, main_unit, inputs, addi, addis_ha, addi_lo, bs, bl, blr, seven}
 
 -- ---- faults of linking
 

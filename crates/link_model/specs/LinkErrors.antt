@@ -1,7 +1,8 @@
 -- The number of a fault of linking.
 use Rattle.std.specs.Prelude.{ℕ}
 use Rattle.link_model.specs.declared.link_error.LinkError.{LinkError}
-use Rattle.link_model.specs.declared.link_error.LinkError.TheVariants.{UnitTwice, DefinedTwice, Undeclared, SigDiffers, NoEntry, Memory, TooBig}
+use Rattle.link_model.specs.declared.link_error.LinkError.TheVariants.{UnitTwice, DefinedTwice, Undeclared, SigDiffers, NoEntry, Memory}
+use Rattle.link_model.specs.declared.link_error.LinkError.TheVariants.{TooBig}
 
 abbrev pub number_of : LinkError → ℕ
 number_of (UnitTwice unit) = 1

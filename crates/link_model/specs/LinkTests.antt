@@ -11,7 +11,8 @@ use Rattle.asm_syntax.specs.Sizes.{variable_size}
 use Rattle.asm_shapes.specs.Units.{unit_fits}
 use Rattle.link_model.specs.declared.link_error.LinkError.{LinkError}
 use Rattle.link_model.specs.declared.link_error.LinkError.TheVariants.{UnitTwice, DefinedTwice, Undeclared, SigDiffers, NoEntry, TooBig}
-use Rattle.link_model.specs.Program.{Item, OfVariable, OfExternal, Declaration, Program, name_of, is_global_definition, declarations, names_used, defines, declares, is_key, is_external, joins, keys}
+use Rattle.link_model.specs.Program.{Item, OfVariable, OfExternal, Declaration, Program, name_of, is_global_definition, declarations}
+use Rattle.link_model.specs.Program.{names_used, defines, declares, is_key, is_external, joins, keys}
 use Rattle.link_model.specs.Numbers.{is_entry}
 
 -- ---- units

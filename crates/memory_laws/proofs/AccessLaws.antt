@@ -1,5 +1,6 @@
 -- A defined load or store of the assembly is one of the image, in all forms.
-use Rattle.std.proofs.Common.{◌≡◌, ℕ, zero, suc, ◌+◌, ◌*◌, ◌/◌, ◌%◌, ◌<◌, ◌≤◌, Bool, true, false, not, ◌&&◌, nat_le, List, [], ◌∷◌, length, Option, Some, None, refl, sym, ap, ap₂, ◌∙◌, subst, arith, if◌then◌else◌}
+use Rattle.std.proofs.Common.{◌≡◌, ℕ, zero, suc, ◌+◌, ◌*◌, ◌/◌, ◌%◌, ◌<◌, ◌≤◌, Bool, true, false, not, ◌&&◌, nat_le, List, [], ◌∷◌, length}
+use Rattle.std.proofs.Common.{Option, Some, None, refl, sym, ap, ap₂, ◌∙◌, subst, arith, if◌then◌else◌}
 use Rattle.std.specs.Prelude.{◌==◌, find, option_map, option_and_then, Result, Ok, Err}
 use Rattle.std.specs.Int.{cast_unsigned, w32}
 use Rattle.std.proofs.lemmas.Bool.{eqb-true, and_parts, leb-true}
@@ -34,14 +35,18 @@ use Rattle.memory_laws.proofs.SegmentLaws.{each_law, same_mapped, same_write}
 pub same_val_is : (w : World) (live : List Live) (u v : Val) → same_val u v ≡ true → shown w live u ≡ shown w live v
 same_val_is w live Undef Undef e = refl
 same_val_is w live (Int a) (Int b) e = ap Some (eqb-true a b e)
-same_val_is w live (Ptr a b) (Ptr c d) e = let p = and_parts (a == c) (b == d) e in ap₂ (λ x y. shown w live (Ptr x y)) (eqb-true a c p.0) (eqb-true b d p.1)
-same_val_is w live (Code a b) (Code c d) e = let p = and_parts (a == c) (b == d) e in ap₂ (λ x y. shown w live (Code x y)) (eqb-true a c p.0) (eqb-true b d p.1)
-same_val_is w live (Ext a b) (Ext c d) e = let p = and_parts (a == c) (b == d) e in ap₂ (λ x y. shown w live (Ext x y)) (eqb-true a c p.0) (eqb-true b d p.1)
+same_val_is w live (Ptr a b) (Ptr c d) e = let p = and_parts (a == c) (b == d) e in
+    ap₂ (λ x y. shown w live (Ptr x y)) (eqb-true a c p.0) (eqb-true b d p.1)
+same_val_is w live (Code a b) (Code c d) e = let p = and_parts (a == c) (b == d) e in
+    ap₂ (λ x y. shown w live (Code x y)) (eqb-true a c p.0) (eqb-true b d p.1)
+same_val_is w live (Ext a b) (Ext c d) e = let p = and_parts (a == c) (b == d) e in
+    ap₂ (λ x y. shown w live (Ext x y)) (eqb-true a c p.0) (eqb-true b d p.1)
 same_val_is w live Stop Stop e = refl
 same_val_is w live (Ha k a b) (Ha l c d) e =
     let p = and_parts (k == l && same_offset a c) (b == d) e in
     let q = and_parts (k == l) (same_offset a c) p.0 in
-    let e1 : wrapped (w.address k + cast_unsigned w32 a) ≡ wrapped (w.address l + cast_unsigned w32 c) = ap₂ (λ x y. wrapped (w.address x + y)) (eqb-true k l q.0) (eqb-true (cast_unsigned w32 a) (cast_unsigned w32 c) q.1) in
+    let e1 : wrapped (w.address k + cast_unsigned w32 a) ≡ wrapped (w.address l + cast_unsigned w32 c) =
+    ap₂ (λ x y. wrapped (w.address x + y)) (eqb-true k l q.0) (eqb-true (cast_unsigned w32 a) (cast_unsigned w32 c) q.1) in
     ap₂ (λ x y. Some (wrapped (Rattle.isa_model.specs.Word.ha x * 65536 + y))) e1 (eqb-true b d p.1)
 same_val_is w live _ _ e = cc
 
@@ -69,9 +74,11 @@ module _ (w : World) (ok : Fits w) (live : List Live) (next : ℕ) (laid : Laid 
   part_law Undef x m j h = (tt, tt)
   part_law (Int n) x m j h = absurd (h n refl)
   part_law (Ptr b o) x m j h = (m.named, pointed (home w live b) o x m.shows j)
-  part_law (Code f i) x m j h = let l = code_below w ok live next laid f i x m in let e = m.shows in (m.named, (omega arith, ap (λ z. byte_of_word z j) m.shows))
+  part_law (Code f i) x m j h = let l = code_below w ok live next laid f i x m in let e = m.shows in
+      (m.named, (omega arith, ap (λ z. byte_of_word z j) m.shows))
   part_law (Ext k o) x m j h = (m.named, (omega arith, ap (λ z. byte_of_word z j) m.shows))
-  part_law Stop x m j h = let l = stop_below w ok live next laid x m in let e = m.shows in (tt, (omega arith, ap (λ z. byte_of_word z j) m.shows))
+  part_law Stop x m j h = let l = stop_below w ok live next laid x m in let e = m.shows in
+      (tt, (omega arith, ap (λ z. byte_of_word z j) m.shows))
   part_law (Ha k o n) x m j h = (m.named, (omega arith, ap (λ z. byte_of_word z j) m.shows))
 
   parts_law : (v : Val) (x : ℕ) → Means w live next v x → ((n : ℕ) → v ≡ Int n → ⊥)
@@ -79,8 +86,13 @@ module _ (w : World) (ok : Fits w) (live : List Live) (next : ℕ) (laid : Laid 
   parts_law v x m h = (part_law v x m 0 h, (part_law v x m 1 h, (part_law v x m 2 h, (part_law v x m 3 h, tt))))
 
   pub word_cells : (v : Val) (x : ℕ) → Means w live next v x → Both (CellMeans w live next) (cells_by Word v) (bytes_of Word x)
-  word_cells (Int n) x m =
-      (ap (λ z. z / 16777216 % 256) m.shows, (ap (λ z. z / 65536 % 256) m.shows, (ap (λ z. z / 256 % 256) m.shows, (ap (λ z. z % 256) m.shows, tt))))
+  word_cells (Int n) x m = (
+    ap (λ z. z / 16777216 % 256) m.shows,
+    (
+      ap (λ z. z / 65536 % 256) m.shows,
+      (ap (λ z. z / 256 % 256) m.shows, (ap (λ z. z % 256) m.shows, tt)),
+    ),
+  )
   word_cells Undef x m = parts_law Undef x m (λ n e. cc)
   word_cells (Ptr b o) x m = parts_law (Ptr b o) x m (λ n e. cc)
   word_cells (Code b o) x m = parts_law (Code b o) x m (λ n e. cc)
@@ -119,13 +131,18 @@ module _ (w : World) (ok : Fits w) (live : List Live) (next : ℕ) (mem : List S
   store_at form b a o y k v x l ho hw e m =
       let hi = g.laid.high b a k l in
       let e1 : y ≡ a + o = omega arith in
-      let opens = each_law (may_write mem) (width form) (a + o) (omega arith) (λ i h. let q : a + (o + i) ≡ a + o + i = omega arith in subst (λ z. may_write mem z ≡ true) q (same_write w mem g.same (a + (o + i)) ∙ g.laid.open_at b a (o + i) k l (omega arith) hw)) in
-      let maps = each_law (is_mapped mem) (width form) (a + o) (omega arith) (λ i h. let q : a + (o + i) ≡ a + o + i = omega arith in subst (λ z. is_mapped mem z ≡ true) q (same_mapped w mem g.same (a + (o + i)) ∙ g.laid.mapped b a (o + i) k l (omega arith))) in
+      let opens = each_law (may_write mem) (width form) (a + o) (omega arith) (λ i h. let q : a + (o + i) ≡ a + o + i = omega arith in
+      subst (λ z. may_write mem z ≡ true) q (same_write w mem g.same (a + (o + i))
+      ∙ g.laid.open_at b a (o + i) k l (omega arith) hw)) in
+      let maps = each_law (is_mapped mem) (width form) (a + o) (omega arith) (λ i h. let q : a + (o + i) ≡ a + o + i = omega arith in
+      subst (λ z. is_mapped mem z ≡ true) q (same_mapped w mem g.same (a + (o + i)) ∙ g.laid.mapped b a (o + i) k l (omega arith))) in
       record {
         mem = set_bytes mem (a + o) (bytes_of form x);
-        is = rw e1 (ap (λ t. if not t then Err Unmapped else if not (each_from (may_write mem) (width form) (a + o)) then Err ReadOnly else Ok (set_bytes mem (a + o) (bytes_of form x))) maps
+        is = rw e1 (ap (λ t. if not t then Err Unmapped else if not
+            (each_from (may_write mem) (width form) (a + o)) then Err ReadOnly else Ok (set_bytes mem (a + o) (bytes_of form x))) maps
             ∙ ap (λ t. if not t then Err ReadOnly else Ok (set_bytes mem (a + o) (bytes_of form x))) opens);
-        agrees = cells_law w next (cells_by form v) (bytes_of form x) live mem b a o k l (omega (arith, cells_count form v)) hw (cells_by_law w ok live next g.laid form v x m) g;
+        agrees = cells_law w next (cells_by form v) (bytes_of form x) live mem b a o k l (omega (arith, cells_count form v)) hw
+            (cells_by_law w ok live next g.laid form v x m) g;
         homes = home_update b (λ j. set_cells j o (cells_by form v)) (set_cells_mild (cells_by form v) o) w live;
         top_stays = top_update b (λ j. set_cells j o (cells_by form v)) (set_cells_mild (cells_by form v) o) live;
       }
@@ -173,9 +190,12 @@ module _ (w : World) (ok : Fits w) (live : List Live) (next : ℕ) (mem : List S
           let b2 = and_parts (i == 0 && j == 1) (k == 2) b3.0 in
           let b1 = and_parts (i == 0) (j == 1) b2.0 in
           let n1 = subst (λ n. PartShows (shown w live u) n x) (eqb-true i 0 b1.0) m1.1 in
-          let n2 = subst (λ n. PartShows (shown w live u) n y) (eqb-true j 1 b1.1) (subst (λ o. PartShows o j y) (sym (same_val_is w live u v b4.1)) m2.1) in
-          let n3 = subst (λ n. PartShows (shown w live u) n z) (eqb-true k 2 b2.1) (subst (λ o. PartShows o k z) (sym (same_val_is w live u p b5.1)) m3.1) in
-          let n4 = subst (λ n. PartShows (shown w live u) n t) (eqb-true l 3 b3.1) (subst (λ o. PartShows o l t) (sym (same_val_is w live u q b6.1)) m4.1) in
+          let n2 = subst (λ n. PartShows (shown w live u) n y) (eqb-true j 1 b1.1)
+          (subst (λ o. PartShows o j y) (sym (same_val_is w live u v b4.1)) m2.1) in
+          let n3 = subst (λ n. PartShows (shown w live u) n z) (eqb-true k 2 b2.1)
+          (subst (λ o. PartShows o k z) (sym (same_val_is w live u p b5.1)) m3.1) in
+          let n4 = subst (λ n. PartShows (shown w live u) n t) (eqb-true l 3 b3.1)
+          (subst (λ o. PartShows o l t) (sym (same_val_is w live u q b6.1)) m4.1) in
           record { named = m1.0; shows = joined_part (shown w live u) n1 n2 n3 n4 }
       case false b = undef_means w live next _
   join_law _ _ _ _ x y z t m1 m2 m3 m4 = undef_means w live next _
@@ -209,11 +229,16 @@ module _ (w : World) (ok : Fits w) (live : List Live) (next : ℕ) (mem : List S
         hi = g.laid.high b a k l
 
         by : (form : Form) → o + width form ≤ length k.cells → Means w live next (value_by form k o) (value_of mem form y)
-        by Word h = let q = hi in join_law _ _ _ _ _ _ _ _ (cell_here o y (omega arith) e) (cell_here (o + 1) _ (omega arith) (omega arith)) (cell_here (o + 2) _ (omega arith) (omega arith)) (cell_here (o + 3) _ (omega arith) (omega arith))
+        by Word h = let q = hi in join_law _ _ _ _ _ _ _ _ (cell_here o y (omega arith) e)
+            (cell_here (o + 1) _ (omega arith) (omega arith)) (cell_here (o + 2) _ (omega arith) (omega arith))
+            (cell_here (o + 3) _ (omega arith) (omega arith))
         by Half h = let q = hi in half_law _ _ _ _ (cell_here o y (omega arith) e) (cell_here (o + 1) _ (omega arith) (omega arith))
         by Byte h = byte_law _ _ (cell_here o y (omega arith) e)
-        by SignedHalf h = let q = hi in changed_law sext16 _ _ (half_law _ _ _ _ (cell_here o y (omega arith) e) (cell_here (o + 1) _ (omega arith) (omega arith)))
-        by ReversedWord h = let q = hi in four_law _ _ _ _ _ _ _ _ (cell_here (o + 3) _ (omega arith) (omega arith)) (cell_here (o + 2) _ (omega arith) (omega arith)) (cell_here (o + 1) _ (omega arith) (omega arith)) (cell_here o y (omega arith) e)
+        by SignedHalf h = let q = hi in
+            changed_law sext16 _ _ (half_law _ _ _ _ (cell_here o y (omega arith) e) (cell_here (o + 1) _ (omega arith) (omega arith)))
+        by ReversedWord h = let q = hi in
+            four_law _ _ _ _ _ _ _ _ (cell_here (o + 3) _ (omega arith) (omega arith)) (cell_here (o + 2) _ (omega arith) (omega arith))
+            (cell_here (o + 1) _ (omega arith) (omega arith)) (cell_here o y (omega arith) e)
         by ReversedHalf h = let q = hi in half_law _ _ _ _ (cell_here (o + 1) _ (omega arith) (omega arith)) (cell_here o y (omega arith) e)
 
     pub load_at : (form : Form) (o y : ℕ) → o + width form ≤ length k.cells → y ≡ wrapped (a + o)
@@ -221,8 +246,13 @@ module _ (w : World) (ok : Fits w) (live : List Live) (next : ℕ) (mem : List S
     load_at form o y h e =
         let hi = g.laid.high b a k l in
         let e1 : y ≡ a + o = omega arith in
-        let maps = each_law (is_mapped mem) (width form) (a + o) (omega arith) (λ i s. let q : a + (o + i) ≡ a + o + i = omega arith in subst (λ z. is_mapped mem z ≡ true) q (same_mapped w mem g.same (a + (o + i)) ∙ g.laid.mapped b a (o + i) k l (omega arith))) in
-        (value_of mem form y, ap (λ t. if t then Some (value_of mem form y) else None) (subst (λ z. each_from (is_mapped mem) (width form) z ≡ true) (sym e1) maps), value_law form o y h e1)
+        let maps = each_law (is_mapped mem) (width form) (a + o) (omega arith) (λ i s. let q : a + (o + i) ≡ a + o + i = omega arith in
+        subst (λ z. is_mapped mem z ≡ true) q (same_mapped w mem g.same (a + (o + i)) ∙ g.laid.mapped b a (o + i) k l (omega arith))) in (
+          value_of mem form y,
+          ap (λ t. if t then Some (value_of mem form y) else None)
+              (subst (λ z. each_from (is_mapped mem) (width form) z ≡ true) (sym e1) maps),
+          value_law form o y h e1,
+        )
 
   pub load_law : (form : Form) (at : Val) (y : ℕ) → Means w live next at y
       → LoadAgrees w live next (load_by live form at) (loaded mem form y)

@@ -1,5 +1,6 @@
 -- What a change of one block does to each look-up among the live blocks.
-use Rattle.std.proofs.Common.{◌≡◌, ℕ, zero, suc, ◌+◌, ◌-◌, ◌<◌, ◌≤◌, ◌⊎◌, inl, inr, Bool, true, false, nat_lt, List, [], ◌∷◌, length, Option, Some, None, refl, sym, ap, ap₂, ◌∙◌, subst, arith, if◌then◌else◌, length-set}
+use Rattle.std.proofs.Common.{◌≡◌, ℕ, zero, suc, ◌+◌, ◌-◌, ◌<◌, ◌≤◌, ◌⊎◌, inl, inr, Bool, true, false, nat_lt, List, [], ◌∷◌, length}
+use Rattle.std.proofs.Common.{Option, Some, None, refl, sym, ap, ap₂, ◌∙◌, subst, arith, if◌then◌else◌, length-set}
 use Rattle.std.specs.Prelude.{◌==◌, find, option_map}
 use Rattle.std.proofs.lemmas.Bool.{eqb-true, cases_eq}
 use Rattle.asm_mem.specs.declared.cell.Cell.{Cell}
@@ -75,7 +76,8 @@ module _ (b : ℕ) (f : Live → Live) (m : Mild f) where
     cells_head : (k : Live) (ks : List Live) → frame_cells (variables_in w) (f k ∷ ks) ≡ frame_cells (variables_in w) (k ∷ ks)
     cells_head k ks =
         frames_step (variables_in w) (f k) ks
-        ∙ ap₂ (λ z n. if nat_lt (variables_in w) z then n + frame_cells (variables_in w) ks else frame_cells (variables_in w) ks) (m.number k) (m.size k)
+        ∙ ap₂ (λ z n. if nat_lt (variables_in w) z then n + frame_cells (variables_in w) ks else frame_cells (variables_in w) ks)
+        (m.number k) (m.size k)
         ∙ sym (frames_step (variables_in w) k ks)
 
     cells_tail : (k : Live) (ks js : List Live) → frame_cells (variables_in w) js ≡ frame_cells (variables_in w) ks
@@ -102,7 +104,8 @@ module _ (b : ℕ) (f : Live → Live) (m : Mild f) where
 
     base_tail : (k : Live) (ks : List Live) → base w (k ∷ update b f ks) ≡ base w (k ∷ ks)
     base_tail k ks =
-        ap (λ n. if nat_lt k.number (variables_in w) then w.variable_at k.number else w.layout.stack.hi - (n + 16)) (cells_tail k ks (update b f ks) (cells_update ks))
+        ap (λ n. if nat_lt k.number (variables_in w) then w.variable_at k.number else w.layout.stack.hi - (n + 16))
+        (cells_tail k ks (update b f ks) (cells_update ks))
 
     pub home_update : (live : List Live) (d : ℕ) → home w (update b f live) d ≡ home w live d
     home_update [] d = refl
@@ -152,11 +155,19 @@ module _ (b : ℕ) (f : Live → Live) (m : Mild f) where
     was live d a k l = at (before live d a k l)
       where
         at : Before live d a k → Was live d a k
-        at (Changed j e q h) = record { old = j; lives = h; size = ap (λ z. length z.cells) q ∙ m.size j; writable = ap (λ z. z.writable) q ∙ m.writable j }
+        at (Changed j e q h) = record {
+          old = j;
+          lives = h;
+          size = ap (λ z. length z.cells) q ∙ m.size j;
+          writable = ap (λ z. z.writable) q ∙ m.writable j;
+        }
         at (Kept n h) = record { old = k; lives = h; size = refl; writable = refl }
 
     pub above_update : (live : List Live) → Above w live → Above w (update b f live)
-    above_update live h = record { at = λ d a o k l s. let q = was live d a k l in let z = q.size in rw (depth_update live) (h.at d a o q.old q.lives (omega arith)) }
+    above_update live h = record {
+      at = λ d a o k l s. let q = was live d a k l in let z = q.size in
+          rw (depth_update live) (h.at d a o q.old q.lives (omega arith));
+    }
 
     under_update : (n : ℕ) (live : List Live) → Under n live → Under n (update b f live)
     under_update n [] h = tt
@@ -181,11 +192,13 @@ module _ (b : ℕ) (f : Live → Live) (m : Mild f) where
       young = λ d h. home_update live d ∙ l.young d h;
       ordered = ordered_update live l.ordered;
       variables_live = λ v h. home_update live v ∙ l.variables_live v h;
-      apart = λ c d x y o p k j h1 h2 n s1 s2. let q1 = was live c x k h1 in let q2 = was live d y j h2 in let z1 = q1.size in let z2 = q2.size in l.apart c d x y o p q1.old q2.old q1.lives q2.lives n (omega arith) (omega arith);
+      apart = λ c d x y o p k j h1 h2 n s1 s2. let q1 = was live c x k h1 in let q2 = was live d y j h2 in let z1 = q1.size in
+          let z2 = q2.size in l.apart c d x y o p q1.old q2.old q1.lives q2.lives n (omega arith) (omega arith);
       low = λ d a h. l.low d a (sym (home_update live d) ∙ h);
       high = λ d a k h. let q = was live d a k h in let z = q.size in let y = l.high d a q.old q.lives in omega arith;
       data_at = λ d a o k h s. let q = was live d a k h in let z = q.size in l.data_at d a o q.old q.lives (omega arith);
       mapped = λ d a o k h s. let q = was live d a k h in let z = q.size in l.mapped d a o q.old q.lives (omega arith);
-      open_at = λ d a o k h s t. let q = was live d a k h in let z = q.size in l.open_at d a o q.old q.lives (omega arith) (sym q.writable ∙ t);
+      open_at = λ d a o k h s t. let q = was live d a k h in let z = q.size in
+          l.open_at d a o q.old q.lives (omega arith) (sym q.writable ∙ t);
       above = above_update live l.above;
     }

@@ -1,5 +1,6 @@
 -- A frame is made and given back.
-use Rattle.std.proofs.Common.{◌≡◌, ℕ, zero, suc, ◌+◌, ◌-◌, ◌<◌, ◌≤◌, ◌⊎◌, Bool, true, false, List, [], ◌∷◌, length, Option, Some, None, refl, sym, ap, ap₂, ◌∙◌, subst, arith, inl, inr, ⊎_elim, if◌then◌else◌}
+use Rattle.std.proofs.Common.{◌≡◌, ℕ, zero, suc, ◌+◌, ◌-◌, ◌<◌, ◌≤◌, ◌⊎◌, Bool, true, false, List, [], ◌∷◌, length, Option, Some, None}
+use Rattle.std.proofs.Common.{refl, sym, ap, ap₂, ◌∙◌, subst, arith, inl, inr, ⊎_elim, if◌then◌else◌}
 use Rattle.std.specs.Prelude.{◌==◌, find, is_some, slice_index_or}
 use Rattle.std.specs.Option.{option_map_or}
 use Rattle.image_model.specs.Loaded.{is_writable}
@@ -112,13 +113,15 @@ module _ (w : World) (ok : Fits w) (live : List Live) (next : ℕ) (l : Laid w l
         at : (k.number ≡ b) ⊎ (k.number ≡ b → ⊥) → 1 ≤ a
         at (inl e) =
             let n = newest w k live in
-            let h1 : home w (k ∷ live) b ≡ Some (base w (k ∷ live)) = subst (λ z. home w (k ∷ live) z ≡ Some (base w (k ∷ live))) e n.home_is in
+            let h1 : home w (k ∷ live) b ≡ Some (base w (k ∷ live)) =
+            subst (λ z. home w (k ∷ live) z ≡ Some (base w (k ∷ live))) e n.home_is in
             let q : a ≡ base w (k ∷ live) = cc in
             let s = start in let r = ok.stack.range.some in omega arith
         at (inr n) = l.low b a (sym (not_newest w k live b n) ∙ h)
 
     high_case : (b a : ℕ) (j : Live) → Looked w k live b a j → a + length j.cells ≤ 0xfffffff0
-    high_case b a j (Newest n e z) = let s = start in let r : w.layout.stack.hi ≤ 0xfffffff0 = ok.stack.range.most in let y = ap (λ (x : Live). length x.cells) z in omega arith
+    high_case b a j (Newest n e z) = let s = start in let r : w.layout.stack.hi ≤ 0xfffffff0 = ok.stack.range.most in
+        let y = ap (λ (x : Live). length x.cells) z in omega arith
     high_case b a j (Older n e) = l.high b a j e
 
     data_case : (b a o : ℕ) (j : Live) → Looked w k live b a j → o < length j.cells → Data w (a + o)
@@ -175,7 +178,8 @@ module _ (w : World) (ok : Fits w) (live : List Live) (next : ℕ) (l : Laid w l
           }
 
 -- the newest block goes, and a frame is below
-module _ (w : World) (k : Live) (live : List Live) (next : ℕ) (mem : List Segment) (g : MemoryAgrees w (k ∷ live) next mem) (frame : Framed w live) where
+module _ (w : World) (k : Live) (live : List Live) (next : ℕ) (mem : List Segment) (g : MemoryAgrees w (k ∷ live) next mem)
+    (frame : Framed w live) where
   -- what is found below was found before
   below : (b a : ℕ) → home w live b ≡ Some a → k.number ≡ b → ⊥
   below b a h e = let q : home w live b ≡ None = subst (λ z. home w live z ≡ None) e g.laid.ordered.0 in cc

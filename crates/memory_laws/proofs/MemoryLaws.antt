@@ -1,5 +1,6 @@
 -- Changes of the two memories agree.
-use Rattle.std.proofs.Common.{◌≡◌, ℕ, zero, suc, ◌+◌, ◌<◌, ◌≤◌, ◌⊎◌, Bool, true, false, if◌then◌else◌, List, [], ◌∷◌, length, Option, Some, None, refl, sym, ap, ap₂, ◌∙◌, subst, arith, inl, inr, ⊎_elim, get_or-set_same, get_or-set_other, length-set}
+use Rattle.std.proofs.Common.{◌≡◌, ℕ, zero, suc, ◌+◌, ◌<◌, ◌≤◌, ◌⊎◌, Bool, true, false, if◌then◌else◌, List, [], ◌∷◌, length, Option, Some}
+use Rattle.std.proofs.Common.{None, refl, sym, ap, ap₂, ◌∙◌, subst, arith, inl, inr, ⊎_elim, get_or-set_same, get_or-set_other, length-set}
 use Rattle.std.specs.Prelude.{find, option_map, ◌==◌}
 use Rattle.std.proofs.lemmas.Bool.{cases_eq}
 use Rattle.isa_model.specs.Word.{wrapped}
@@ -14,7 +15,8 @@ use Rattle.machine_model.specs.Relation.{Both, CellMeans, CellsAgree, LiveAt, Fr
 use Rattle.value_laws.proofs.Both.{both_map}
 use Rattle.memory_laws.proofs.Keep.{Keeps, same_homes, cell_keep}
 use Rattle.memory_laws.proofs.SegmentLaws.{same_write, flags_set, full_set, byte_same, byte_other}
-use Rattle.memory_laws.proofs.BlockLaws.{Mild, set_cell_mild, update_then, top_update, find_same, home_update, framed_update, laid_update, before, Before, Changed, Kept}
+use Rattle.memory_laws.proofs.BlockLaws.{Mild, set_cell_mild, update_then, top_update, find_same, home_update, framed_update, laid_update}
+use Rattle.memory_laws.proofs.BlockLaws.{before, Before, Changed, Kept}
 
 pub set_cells_mild : (cs : List Cell) (o : ℕ) → Mild (λ k. set_cells k o cs)
 set_cells_mild [] o = record { number = λ k. refl; writable = λ k. refl; size = λ k. refl }
@@ -45,7 +47,8 @@ module _ (w : World) (next : ℕ) where
     full = full_set a x mem s.full;
   }
 
-  module _ (live : List Live) (mem : List Segment) (b a o : ℕ) (k : Live) (c : Cell) (l : LiveAt w live b a k) (g : MemoryAgrees w live next mem) where
+  module _ (live : List Live) (mem : List Segment) (b a o : ℕ) (k : Live) (c : Cell) (l : LiveAt w live b a k)
+      (g : MemoryAgrees w live next mem) where
     live1 : List Live
     live1 = update b (λ j. set_cell j o c) live
 
@@ -55,10 +58,14 @@ module _ (w : World) (next : ℕ) where
 
     -- the cells after a change, where the memories agree at the cell and everywhere else
     cells_after : (n : List Segment) → CellMeans w live next c (byte_of n (a + o))
-        → ((d e p : ℕ) (j : Live) → LiveAt w live d e j → p < length j.cells → (d ≡ b → p ≡ o → ⊥) → byte_of n (e + p) ≡ byte_of mem (e + p))
+        → ((d e p : ℕ) (j : Live) → LiveAt w live d e j → p < length j.cells → (d ≡ b → p ≡ o → ⊥)
+        → byte_of n (e + p) ≡ byte_of mem (e + p))
         → CellsAgree w live1 next n
     unfolding live1 keep
-    cells_after n here others = record { at = λ d e p j lj hp. at d e p j hp (before b (λ j. set_cell j o c) (set_cell_mild o c) w live d e j lj) }
+    cells_after n here others = record {
+      at = λ d e p j lj hp.
+          at d e p j hp (before b (λ j. set_cell j o c) (set_cell_mild o c) w live d e j lj);
+    }
       where
         kept_cell : (d e p : ℕ) (j : Live) → LiveAt w live d e j → p < length j.cells → (d ≡ b → p ≡ o → ⊥)
             → CellMeans w live1 next (cell j p) (byte_of n (e + p))
@@ -81,7 +88,8 @@ module _ (w : World) (next : ℕ) where
             by_place : (p ≡ o) ⊎ (p ≡ o → ⊥) → CellMeans w live1 next (cell j p) (byte_of n (e + p))
             by_place (inl z) =
                 let s0 = sized in
-                let c1 : cell j p ≡ c = ap (λ y. cell y p) r ∙ ap (λ y. cell (set_cell i o c) y) z ∙ get_or-set_same i.cells o c Nothing (omega arith) in
+                let c1 : cell j p ≡ c = ap (λ y. cell y p) r ∙ ap (λ y. cell (set_cell i o c) y) z
+                ∙ get_or-set_same i.cells o c Nothing (omega arith) in
                 let b1 : byte_of n (e + p) ≡ byte_of n (a + o) = ap₂ (λ x y. byte_of n (x + y)) same.1 z in
                 rw (c1, b1) (cell_keep w live next live1 next keep c _ here)
             by_place (inr z) =
@@ -99,7 +107,8 @@ module _ (w : World) (next : ℕ) where
         record {
           laid = laid_update b f (set_cell_mild o c) w live next g.laid;
           frame = framed_update b f (set_cell_mild o c) w live g.frame;
-          cells = cells_after (set_byte mem (a + o) x) (rw hit m) (λ d e p j lj hp ne. byte_other (a + o) x mem (e + p) (apart d e p j lj hp ne));
+          cells = cells_after (set_byte mem (a + o) x) (rw hit m)
+              (λ d e p j lj hp ne. byte_other (a + o) x mem (e + p) (apart d e p j lj hp ne));
           same = same_set mem (a + o) x (g.laid.data_at b a o k l inside) g.same;
         }
       where
@@ -125,7 +134,11 @@ module _ (w : World) (next : ℕ) where
   -- the block after a change
   pub lives_on : (live : List Live) (b a : ℕ) (k : Live) (f : Live → Live) → Mild f → LiveAt w live b a k
       → LiveAt w (update b f live) b a (f k)
-  lives_on live b a k f m l = record { home_is = home_update b f m w live b ∙ l.home_is; block = find_same b f m live ∙ ap (λ o. option_map f o) l.block }
+  lives_on live b a k f m l = record {
+    home_is = home_update b f m w live b ∙ l.home_is;
+    block = find_same b f m live
+        ∙ ap (λ o. option_map f o) l.block;
+  }
 
   -- several cells, one after another
   pub cells_law : (cs : List Cell) (xs : List ℕ) (live : List Live) (mem : List Segment) (b a o : ℕ) (k : Live) → LiveAt w live b a k
@@ -142,7 +155,9 @@ module _ (w : World) (next : ℕ) where
       let e : a + (o + 1) ≡ wrapped (a + o + 1) = omega arith in
       let s = length-set k.cells o c in
       let l1 = lives_on live b a k f (set_cell_mild o c) l in
-      let r = cells_law cs xs (update b f live) (set_byte mem (a + o) x) b a (o + 1) (f k) l1 (omega arith) wr (both_map (CellMeans w live next) (CellMeans w (update b f live) next) (cell_keep w live next _ next kp) cs xs m.1) g1 in
+      let r = cells_law cs xs (update b f live) (set_byte mem (a + o) x) b a (o + 1) (f k) l1 (omega arith) wr
+      (both_map (CellMeans w live next) (CellMeans w (update b f live) next) (cell_keep w live next _ next kp) cs xs m.1) g1 in
       let u = update_then b f (λ j. set_cells j (o + 1) cs) (λ j. refl) live in
       subst (λ z. MemoryAgrees w z next (set_bytes (set_byte mem (a + o) x) (wrapped (a + o + 1)) xs)) (sym u)
-      (subst (λ z. MemoryAgrees w (update b (λ j. set_cells j (o + 1) cs) (update b f live)) next (set_bytes (set_byte mem (a + o) x) z xs)) e r)
+      (subst (λ z. MemoryAgrees w (update b (λ j. set_cells j (o + 1) cs) (update b f live)) next
+      (set_bytes (set_byte mem (a + o) x) z xs)) e r)

@@ -1,5 +1,7 @@
 -- What a change of one byte does to each look-up in flat memory.
-use Rattle.std.proofs.Common.{◌≡◌, ℕ, zero, suc, ◌+◌, ◌-◌, ◌<◌, ◌≤◌, Bool, true, false, ◌&&◌, nat_lt, nat_le, List, [], ◌∷◌, length, slice_index, Option, Some, None, refl, sym, ap, ap₂, ◌∙◌, subst, arith, if◌then◌else◌, get_or-set_other, get_or-set_same, length-set}
+use Rattle.std.proofs.Common.{◌≡◌, ℕ, zero, suc, ◌+◌, ◌-◌, ◌<◌, ◌≤◌, Bool, true, false, ◌&&◌, nat_lt, nat_le, List, [], ◌∷◌, length}
+use Rattle.std.proofs.Common.{slice_index, Option, Some, None, refl, sym, ap, ap₂, ◌∙◌, subst, arith, if◌then◌else◌, get_or-set_other}
+use Rattle.std.proofs.Common.{get_or-set_same, length-set}
 use Rattle.std.specs.Prelude.{find, slice_get, slice_set, is_some, option_map}
 use Rattle.std.specs.Option.{option_map_or}
 use Rattle.std.proofs.lemmas.Bool.{and_parts, and_from, leb-true, ltb-true, ltb-false}
@@ -8,6 +10,7 @@ use Rattle.image_model.specs.Loaded.{covers, segment_byte, is_writable, is_execu
 use Rattle.isa_model.specs.Word.{wrapped}
 use Rattle.flat_mem.specs.Memory.{byte_of, flags_in, is_mapped, may_write, may_run, each_from, written, set_byte}
 use Rattle.flat_mem.specs.Access.{word_of, word, next}
+use Rattle.flat_mem.proofs.ImageLaw.{plain_byte}
 use Rattle.machine_model.specs.Worlds.{World}
 use Rattle.machine_model.specs.Relation.{IsFull, Same}
 use Rattle.ordered_tests.specs.Lists.{EachOf}
@@ -18,19 +21,6 @@ byte_or o a = option_map_or (λ n. n) (option_map (λ (s : Segment). segment_byt
 
 abbrev flags_or : Option Segment → Option ℕ
 flags_or o = option_map (λ (s : Segment). s.flags) o
-
-beyond : (xs : List ℕ) (i : ℕ) → length xs ≤ i → slice_index xs i ≡ 0
-beyond [] zero h = refl
-beyond [] (suc i) h = refl
-beyond (x ∷ xs) zero h = absurd (omega arith)
-beyond (x ∷ xs) (suc i) h = beyond xs i (omega arith)
-
-pub plain_byte : (s : Segment) (i : ℕ) → segment_byte s i ≡ slice_index s.held i
-plain_byte s i = at (nat_lt i (length s.held)) refl
-  where
-    at : (t : Bool) → nat_lt i (length s.held) ≡ t → segment_byte s i ≡ slice_index s.held i
-    at true e = rw e refl
-    at false e = rw e (sym (beyond s.held i (ltb-false _ _ e)))
 
 module _ (a x : ℕ) where
   same_range : (s : Segment) (d : ℕ) → covers d (written s a x) ≡ covers d s
@@ -122,7 +112,8 @@ module _ (a x : ℕ) where
       ∙ at (is_writable s.flags) (λ z. n (omega arith)) ∙ sym (plain_byte s (d - s.vaddr))
     where
       at : (t : Bool) → (d - s.vaddr ≡ a - s.vaddr → ⊥)
-          → slice_index (if t then record s { held = slice_set s.held (a - s.vaddr) x } else s).held (d - s.vaddr) ≡ slice_index s.held (d - s.vaddr)
+          → slice_index (if t then record s { held = slice_set s.held (a - s.vaddr) x } else s).held (d - s.vaddr)
+          ≡ slice_index s.held (d - s.vaddr)
       at true z = get_or-set_other s.held (a - s.vaddr) (d - s.vaddr) x 0 z
       at false z = refl
 
@@ -135,13 +126,15 @@ module _ (a x : ℕ) where
       at r true e = ap (λ t. byte_or (if t then Some (written s a x) else find (covers d) rest) d) (same_range s d) ∙ here (covers d s) refl
         where
           here : (t : Bool) → covers d s ≡ t
-              → byte_or (if t then Some (written s a x) else find (covers d) rest) d ≡ byte_or (if t then Some s else find (covers d) rest) d
+              → byte_or (if t then Some (written s a x) else find (covers d) rest) d
+              ≡ byte_or (if t then Some s else find (covers d) rest) d
           here true f = written_other s d e f h
           here false f = refl
       at r false e = here (covers d s)
         where
           here : (t : Bool)
-              → byte_or (if t then Some s else find (covers d) (set_byte rest a x)) d ≡ byte_or (if t then Some s else find (covers d) rest) d
+              → byte_or (if t then Some s else find (covers d) (set_byte rest a x)) d
+              ≡ byte_or (if t then Some s else find (covers d) rest) d
           here true = refl
           here false = r
 
@@ -164,7 +157,8 @@ each_law p (suc n) a l h =
     let z : a + 0 ≡ a = omega arith in
     let h0 : p a ≡ true = subst (λ b. p b ≡ true) z (h 0 (omega arith)) in
     let e : wrapped (a + 1) ≡ a + 1 = omega arith in
-    let r = each_law p n (a + 1) (omega arith) (λ i k. let q : a + suc i ≡ a + 1 + i = omega arith in subst (λ b. p b ≡ true) q (h (suc i) (omega arith))) in
+    let r = each_law p n (a + 1) (omega arith) (λ i k. let q : a + suc i ≡ a + 1 + i = omega arith in
+    subst (λ b. p b ≡ true) q (h (suc i) (omega arith))) in
     and_from (p a) _ h0 (subst (λ b. each_from p n b ≡ true) (sym e) r)
 
 -- the word at an address, where its bytes are as they were
@@ -178,13 +172,9 @@ word_law m n a l h =
     let e3 : next (next (next a)) ≡ a + 3 = omega arith in
     let b1 : byte_of m (next a) ≡ byte_of n (next a) = subst (λ b. byte_of m b ≡ byte_of n b) (sym e1) (h 1 (omega arith)) in
     let b2 : byte_of m (next (next a)) ≡ byte_of n (next (next a)) = subst (λ b. byte_of m b ≡ byte_of n b) (sym e2) (h 2 (omega arith)) in
-    let b3 : byte_of m (next (next (next a))) ≡ byte_of n (next (next (next a))) = subst (λ b. byte_of m b ≡ byte_of n b) (sym e3) (h 3 (omega arith)) in
+    let b3 : byte_of m (next (next (next a))) ≡ byte_of n (next (next (next a))) =
+    subst (λ b. byte_of m b ≡ byte_of n b) (sym e3) (h 3 (omega arith)) in
     ap (λ x. word x (byte_of m (next a)) (byte_of m (next (next a))) (byte_of m (next (next (next a))))) b0
     ∙ ap (λ x. word (byte_of n a) x (byte_of m (next (next a))) (byte_of m (next (next (next a))))) b1
     ∙ ap (λ x. word (byte_of n a) (byte_of n (next a)) x (byte_of m (next (next (next a))))) b2
     ∙ ap (λ x. word (byte_of n a) (byte_of n (next a)) (byte_of n (next (next a))) x) b3
-
-pub get_below : {A : Type 0} (xs : List A) (i : ℕ) (x : A) → slice_get xs i ≡ Some x → i < length xs
-get_below [] i x e = cc
-get_below (y ∷ ys) zero x e = omega arith
-get_below (y ∷ ys) (suc i) x e = let q = get_below ys i x e in omega arith

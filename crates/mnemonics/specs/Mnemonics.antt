@@ -1,6 +1,8 @@
 -- The mnemonics of dumps, and the form of instruction that each selects. The plain mnemonics are spelled as in the instruction table.
 use Rattle.std.specs.Prelude.{ℕ, List, [], ◌∷◌, Option, Some, None, flat_map, map, zip, codes}
-use Rattle.isa_model.specs.Instructions.{alu_imm_names, log_imm_names, alu_names, alu2_names, log_names, log2_names, srawi_name, rot_names, load_names, store_names, load_x_names, store_x_names, cmp_names, cmp_imm_names, cr_bit_names, move_names, bar_names, jump_names}
+use Rattle.isa_model.specs.Instructions.{alu_imm_names, log_imm_names, alu_names, alu2_names, log_names, log2_names, srawi_name, rot_names}
+use Rattle.isa_model.specs.Instructions.{load_names, store_names, load_x_names, store_x_names, cmp_names, cmp_imm_names, cr_bit_names}
+use Rattle.isa_model.specs.Instructions.{move_names, bar_names, jump_names}
 use Rattle.mnemonics.specs.declared.form.Form.{Form}
 use Rattle.mnemonics.specs.declared.form.Form.TheVariants as Forms
 use Rattle.mnemonics.specs.declared.form.JumpForm.{JumpForm}
@@ -116,28 +118,28 @@ refused_names = codes "fabs" ∷ codes "fadd" ∷ codes "fadds" ∷ codes "fcmpu
 abbrev pub selecting : {Op : Type 0} → (Op → Form) → List (List ℕ) → List Op → List (List ℕ × Option Form)
 selecting form names ops = zip names (map (λ op. Some (form op)) ops)
 
--- each mnemonic beside the form that it selects; a refused one selects none
+-- each mnemonic beside the form that it selects, the classes that compilers use most first; a refused one selects none
 unfoldable pub mnemonics : List (List ℕ × Option Form)
 mnemonics = flat_map (λ rows. rows) (
-    selecting Forms.AluImm alu_imm_names alu_imm_ops
-    ∷ selecting Forms.LogImm log_imm_names log_imm_ops
-    ∷ selecting Forms.Alu alu_names alu_ops
-    ∷ selecting Forms.Alu2 alu2_names alu2_ops
-    ∷ selecting Forms.Log log_names log_ops
-    ∷ selecting Forms.Log2 log2_names log2_ops
-    ∷ ((srawi_name, Some Forms.Srawi) ∷ [])
-    ∷ selecting Forms.Rot rot_names rot_ops
-    ∷ selecting Forms.Load load_names load_ops
+    selecting Forms.Load load_names load_ops
     ∷ selecting Forms.Store store_names store_ops
+    ∷ selecting Forms.Pseudo pseudo_names pseudo_forms
+    ∷ selecting Forms.CmpImm cmp_imm_names cmp_imm_ops
+    ∷ selecting Forms.Move move_names move_ops
+    ∷ selecting Forms.Jump jump_names jump_forms
+    ∷ selecting Forms.AluImm alu_imm_names alu_imm_ops
+    ∷ selecting Forms.Alu alu_names alu_ops
+    ∷ selecting Forms.Log log_names log_ops
+    ∷ selecting Forms.Rot rot_names rot_ops
+    ∷ ((srawi_name, Some Forms.Srawi) ∷ [])
+    ∷ selecting Forms.Cmp cmp_names cmp_ops
+    ∷ selecting Forms.LogImm log_imm_names log_imm_ops
+    ∷ selecting Forms.Log2 log2_names log2_ops
+    ∷ selecting Forms.Alu2 alu2_names alu2_ops
     ∷ selecting Forms.LoadX load_x_names load_x_ops
     ∷ selecting Forms.StoreX store_x_names store_x_ops
-    ∷ selecting Forms.Cmp cmp_names cmp_ops
-    ∷ selecting Forms.CmpImm cmp_imm_names cmp_imm_ops
     ∷ selecting Forms.CrBit cr_bit_names cr_bit_ops
-    ∷ selecting Forms.Move move_names move_ops
     ∷ selecting Forms.Bar bar_names bar_ops
-    ∷ selecting Forms.Jump jump_names jump_forms
-    ∷ selecting Forms.Pseudo pseudo_names pseudo_forms
     ∷ map (λ name. (name, None)) refused_names
     ∷ []
     )

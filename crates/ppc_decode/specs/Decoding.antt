@@ -1,10 +1,17 @@
 -- The instruction that a word proposes by its fields. A reserved bit may still be set, and BO or a record bit be another.
-use Rattle.std.specs.Prelude.{ℕ, ◌+◌, ◌*◌, ◌-◌, ◌/◌, ◌%◌, ◌^◌, pos, ◌==◌, if◌then◌else◌, ◌≡◌, ◌↔◌, List, slice_index, Option, Some, None, option_and_then, position}
-use Rattle.isa_model.specs.Instructions.{alu_imm_opcodes, log_imm_opcodes, alu_opcodes, alu2_opcodes, log_opcodes, and_dot_place, log2_opcodes, srawi_opcode, rot_opcodes, load_opcodes, store_opcodes, load_x_opcodes, store_x_opcodes, cmp_opcodes, cmp_imm_opcodes, cmpwi_place, cr_bit_opcodes, move_opcodes, bar_words, b_opcode, bc_opcode, blr_word, bctr_word, bctrl_word, trap_word, stwu_opcode, stwux_opcode, mfcr_opcode}
+use Rattle.std.specs.Prelude.{ℕ, ◌+◌, ◌*◌, ◌-◌, ◌/◌, ◌%◌, ◌^◌, pos, ◌==◌, if◌then◌else◌, ◌≡◌, ◌↔◌, List, slice_index, Option, Some, None}
+use Rattle.std.specs.Prelude.{option_and_then, position}
+use Rattle.isa_model.specs.Instructions.{alu_imm_opcodes, log_imm_opcodes, alu_opcodes, alu2_opcodes, log_opcodes, and_dot_place}
+use Rattle.isa_model.specs.Instructions.{log2_opcodes, srawi_opcode, rot_opcodes, load_opcodes, store_opcodes, load_x_opcodes}
+use Rattle.isa_model.specs.Instructions.{store_x_opcodes, cmp_opcodes, cmp_imm_opcodes, cmpwi_place, cr_bit_opcodes, move_opcodes}
+use Rattle.isa_model.specs.Instructions.{bar_words, b_opcode, bc_opcode, blr_word, bctr_word, bctrl_word, trap_word, stwu_opcode}
+use Rattle.isa_model.specs.Instructions.{stwux_opcode, mfcr_opcode}
 use Rattle.isa_model.specs.Forms.{signed}
 use Rattle.ppc_decode.specs.Word.{is_word, Encodes}
 use Rattle.ppc_decode.specs.declared.machine.Machine.{Machine}
-use Rattle.ppc_decode.specs.declared.machine.Machine.TheVariants.{AluImm, LogImm, Alu, Alu2, Log, Log2, Srawi, Rot, Load, Store, LoadX, StoreX, Cmp, CmpImm, CrBit, Move, Bar, Stwu, Stwux, Mfcr, B, Bl, Bc, Blr, Bctr, Bctrl, Trap}
+use Rattle.ppc_decode.specs.declared.machine.Machine.TheVariants.{AluImm, LogImm, Alu, Alu2, Log, Log2, Srawi, Rot, Load, Store, LoadX}
+use Rattle.ppc_decode.specs.declared.machine.Machine.TheVariants.{StoreX, Cmp, CmpImm, CrBit, Move, Bar, Stwu, Stwux, Mfcr, B, Bl, Bc, Blr}
+use Rattle.ppc_decode.specs.declared.machine.Machine.TheVariants.{Bctr, Bctrl, Trap}
 
 -- the first place of an opcode in a row
 abbrev pub place_in : List ℕ → ℕ → Option ℕ

@@ -4,9 +4,14 @@ use Rattle.std.specs.Option.{option_map_or}
 use Rattle.std.specs.Str.{bytes_eq}
 use Rattle.std.specs.Int.{cast_unsigned, w32}
 use Rattle.isa_model.specs.Word.{wrapped}
-use Rattle.isa_model.specs.Instructions.{name_at, alu_imm_names, log_imm_names, alu_names, alu2_names, log_names, log2_names, srawi_name, rot_names, load_names, store_names, load_x_names, store_x_names, cmp_names, cmp_imm_names, cr_bit_names, move_names, bar_names, b_name, bl_name, bc_name, bdnz_name, blr_name, bctr_name, bctrl_name, trap_name, stwu_name, stwux_name, mfcr_name}
+use Rattle.isa_model.specs.Instructions.{name_at, alu_imm_names, log_imm_names, alu_names, alu2_names, log_names, log2_names, srawi_name}
+use Rattle.isa_model.specs.Instructions.{rot_names, load_names, store_names, load_x_names, store_x_names, cmp_names, cmp_imm_names}
+use Rattle.isa_model.specs.Instructions.{cr_bit_names, move_names, bar_names, b_name, bl_name, bc_name, bdnz_name, blr_name, bctr_name}
+use Rattle.isa_model.specs.Instructions.{bctrl_name, trap_name, stwu_name, stwux_name, mfcr_name}
 use Rattle.ppc_decode.specs.declared.machine.Machine.{Machine}
-use Rattle.ppc_decode.specs.declared.machine.Machine.TheVariants.{AluImm, LogImm, Alu, Alu2, Log, Log2, Srawi, Rot, Load, Store, LoadX, StoreX, Cmp, CmpImm, CrBit, Move, Bar, Stwu, Stwux, Mfcr, B, Bl, Bc, Blr, Bctr, Bctrl, Trap}
+use Rattle.ppc_decode.specs.declared.machine.Machine.TheVariants.{AluImm, LogImm, Alu, Alu2, Log, Log2, Srawi, Rot, Load, Store, LoadX}
+use Rattle.ppc_decode.specs.declared.machine.Machine.TheVariants.{StoreX, Cmp, CmpImm, CrBit, Move, Bar, Stwu, Stwux, Mfcr, B, Bl, Bc, Blr}
+use Rattle.ppc_decode.specs.declared.machine.Machine.TheVariants.{Bctr, Bctrl, Trap}
 use Rattle.ppc_decode.specs.declared.operand.Operand.{Operand}
 use Rattle.ppc_decode.specs.declared.operand.Operand.TheVariants.{Number, Signed, Target}
 use Rattle.ppc_decode.specs.Word.{fits}

@@ -1,14 +1,17 @@
 -- What each machine instruction does, by its row in the table of effects.
 use Rattle.std.specs.Int.{cast_unsigned, w32}
 use Rattle.ppc_decode.specs.declared.machine.Machine.{Machine}
-use Rattle.ppc_decode.specs.declared.machine.Machine.TheVariants.{AluImm, LogImm, Alu, Alu2, Log, Log2, Srawi, Rot, Load, Store, LoadX, StoreX, Cmp, CmpImm, CrBit, Move, Bar, Stwu, Stwux, Mfcr, B, Bl, Bc, Blr, Bctr, Bctrl, Trap}
+use Rattle.ppc_decode.specs.declared.machine.Machine.TheVariants.{AluImm, LogImm, Alu, Alu2, Log, Log2, Srawi, Rot, Load, Store, LoadX}
+use Rattle.ppc_decode.specs.declared.machine.Machine.TheVariants.{StoreX, Cmp, CmpImm, CrBit, Move, Bar, Stwu, Stwux, Mfcr, B, Bl, Bc, Blr}
+use Rattle.ppc_decode.specs.declared.machine.Machine.TheVariants.{Bctr, Bctrl, Trap}
 use Rattle.effect_model.specs.declared.Constant.TheVariants.{Int}
 use Rattle.effect_model.specs.declared.Operand.TheVariants.{Number}
 use Rattle.effect_model.specs.declared.Place.TheVariants.{Gpr}
 use Rattle.effect_model.specs.declared.Effects.TheVariants.{Nothing}
 use Rattle.effect_model.specs.declared.Action.{Action}
 use Rattle.effect_model.specs.declared.Action.TheVariants as does
-use Rattle.effect_model.specs.Rows.{register, alu_imm, log_imm, alu, alu2, log, log2, srawi, rot, load, store, load_x, store_x, stwu, stwux, cmp, cr_bit, move}
+use Rattle.effect_model.specs.Rows.{register, alu_imm, log_imm, alu, alu2, log, log2, srawi, rot, load, store, load_x, store_x, stwu}
+use Rattle.effect_model.specs.Rows.{stwux, cmp, cr_bit, move}
 
 abbrev pub action_of : Machine → Action
 action_of (AluImm k d a c) = alu_imm k d a (Int c)

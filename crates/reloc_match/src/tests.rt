@@ -12,21 +12,11 @@ use layout_file::layout::Layout;
 use layout_file::read_layout;
 use std::alloc::Global;
 use std::test::Fail;
-
-static LAYOUT: &str =
-    r#"{"valex":"layout","version":1,"entry":"main","stop":"0x10000000","stack":["0x20000000","0x20010000"],"r13":"0x10038000","r2":"0x10048000","areas":[{"name":"text","range":["0x10010000","0x10011000"],"kind":"code"}],"foreign":[],"pins":[]}"#;
-
-/// The text, which proofs need not see.
-fn layout_text() -> &'static str {
-    LAYOUT
-}
+use test_images::layouts::layout_of;
 
 fn layout(alloc: Global) -> Result<Layout, Fail> {
-    Ok(
-        read_layout(alloc, layout_text().as_bytes())
-            .ok()
-            .ok_or("a layout")?,
-    )
+    let text = layout_of(alloc, "area code 10010000 10011000").ok_or("the text of a layout")?;
+    Ok(read_layout(alloc, text.as_bytes()).ok().ok_or("a layout")?)
 }
 
 fn reg(n: u8) -> Result<Reg, Fail> {

@@ -1,6 +1,6 @@
-//! Programs of functions alone, and what `check` answers on their images.
+//! Programs of functions alone, and what `check` and `run` answer on their images.
 
-static CODE_PROGRAMS: [&str; 22] = [
+static CODE_PROGRAMS: [&str; 18] = [
     r#"first path
 #a.json
 {"valex":"unit","version":1,"unit":"a.c","functions":[{"name":"main","static":false,"code":[["addi",3,0,7],["blr"]]}],
@@ -19,6 +19,30 @@ padding 0
 foreign 0
 loaded 8
 10010000 10010008 function a.c main
+#run 0 10
+assembly
+ended 00000007
+image
+ended 00000007
+same
+#run 0 0
+assembly
+going
+image
+going
+same
+#run 0 2
+assembly
+going
+image
+ended 00000007
+same
+#run 0 3
+assembly
+ended 00000007
+image
+ended 00000007
+same
 #image
 entry 10010000
 segment 10010000 5 8 38600008 4e800020
@@ -30,6 +54,12 @@ place a.c main 00000000
 item 0
 wanted 38600007
 found 38600008
+#run 7 10
+assembly
+ended 00000007
+image
+ended 00000008
+differ 0
 #image
 entry 10010000
 segment 10010000 5 8 3c600007 4e800020
@@ -52,6 +82,12 @@ place a.c main 00000004
 item 0
 wanted 4e800020
 found 4e800021
+#run 7 10
+assembly
+ended 00000007
+image
+faulted opcode
+differ 0
 #image
 entry 10010000
 segment 10010000 5 8 38600007 00000000
@@ -74,6 +110,12 @@ place - - 10010002
 item 0
 wanted 00000000
 found 10010002
+#run 0 10
+assembly
+ended 00000007
+image
+ended 00000007
+same
 #image
 entry 10010008
 segment 10010000 5 8 38600007 4e800020
@@ -90,6 +132,13 @@ entry 10010000
 segment 10010000 5 8 38600007 4e800020
 symbol 10010000 12 fff1 mein
 #1
+no
+rule 2 no-symbol
+place a.c main 00000000
+item 0
+wanted 00000001
+found 00000000
+#run 1 10
 no
 rule 2 no-symbol
 place a.c main 00000000
@@ -113,6 +162,13 @@ segment 10010000 5 8 38600007 4e800020
 symbol 10010000 12 fff1 main
 symbol 10010004 12 fff1 main
 #1
+no
+rule 4 several-fit
+place a.c main 00000000
+item 0
+wanted 00000001
+found 00000002
+#run 1 10
 no
 rule 4 several-fit
 place a.c main 00000000
@@ -145,6 +201,12 @@ place a.c main 00000000
 item 1
 wanted 00000000
 found 10010002
+#run 7 10
+assembly
+ended 00000007
+image
+faulted not-code
+differ 0
 #image
 entry 10010000
 segment 10010000 5 8 38600007 4e800020
@@ -168,6 +230,12 @@ place a.c main 00000004
 item 3
 wanted 00000000
 found 10010000
+#run 7 10
+assembly
+ended 00000007
+image
+faulted unmapped
+differ 0
 #image
 entry 10010000
 segment 10010000 5 4 38600007
@@ -180,6 +248,12 @@ place a.c main 00000004
 item 3
 wanted 00000000
 found 10010000
+#run 7 10
+assembly
+ended 00000007
+image
+faulted not-code
+differ 0
 #image
 entry 10010000
 segment 10010000 5 10 38600007 4e800020 60000000 60000000
@@ -380,152 +454,6 @@ padding 0
 foreign 0
 loaded 12
 10010000 1001000c function a.c main"#,
-    r#"branches
-#a.json
-{"valex":"unit","version":1,"unit":"a.c","functions":[{"name":"main","static":false,"code":[["imm",3,0],["cmpwi",0,3,0],["bt",2,1],["addi",3,3,1],["label",1],["blr"]]}],
-"variables":[],"externals":[]}
-#image
-entry 10010000
-segment 10010000 5 14 38600000 2c030000 41820008 38630001 4e800020
-symbol 10010000 12 fff1 main
-#0
-yes
-functions 1 bytes 20
-tables 0 bytes 0
-variables 0 bytes 0
-externals 0
-padding 0
-foreign 0
-loaded 20
-10010000 10010014 function a.c main
-#image
-entry 10010000
-segment 10010000 5 18 38600000 2c030000 40820008 48000008 38630001 4e800020
-symbol 10010000 12 fff1 main
-#0
-yes
-functions 1 bytes 24
-tables 0 bytes 0
-variables 0 bytes 0
-externals 0
-padding 0
-foreign 0
-loaded 24
-10010000 10010018 function a.c main
-#image
-entry 10010000
-segment 10010000 5 18 38600000 2c030000 4082000c 48000008 38630001 4e800020
-symbol 10010000 12 fff1 main
-#1
-no
-rule 8 field
-place a.c main 00000008
-item 0
-wanted 40820008
-found 4082000c
-#image
-entry 10010000
-segment 10010000 5 14 38600000 2c030000 4182000c 38630001 4e800020
-symbol 10010000 12 fff1 main
-#1
-no
-rule 10 branch
-place a.c main 00000008
-item 0
-wanted 10010010
-found 10010014"#,
-    r#"loop
-#a.json
-{"valex":"unit","version":1,"unit":"a.c","functions":[{"name":"main","static":false,"code":[["label",1],["bdnz",1],["blr"]]}],
-"variables":[],"externals":[]}
-#image
-entry 10010000
-segment 10010000 5 8 42000000 4e800020
-symbol 10010000 12 fff1 main
-#0
-yes
-functions 1 bytes 8
-tables 0 bytes 0
-variables 0 bytes 0
-externals 0
-padding 0
-foreign 0
-loaded 8
-10010000 10010008 function a.c main
-#image
-entry 10010000
-segment 10010000 5 8 42000004 4e800020
-symbol 10010000 12 fff1 main
-#1
-no
-rule 10 branch
-place a.c main 00000000
-item 0
-wanted 10010000
-found 10010004"#,
-    r#"jump table
-#a.json
-{"valex":"unit","version":1,"unit":"a.c","functions":[{"name":"main","static":false,"code":[["imm",3,1],["btbl",3,[1,2,3]],["label",1],["imm",3,10],["blr"],["label",2],["imm",3,20],["blr"],["label",3],["imm",3,30],["blr"]]}],
-"variables":[],"externals":[]}
-#image
-entry 10010000
-segment 10010000 5 3c 38600001 546c103a 3d8c1001 818c0030 7d8903a6 4e800420 3860000a 4e800020 38600014 4e800020 3860001e 4e800020 10010018 10010020 10010028
-symbol 10010000 12 fff1 main
-#0
-yes
-functions 1 bytes 48
-tables 1 bytes 12
-variables 0 bytes 0
-externals 0
-padding 0
-foreign 0
-loaded 60
-10010000 10010030 function a.c main
-10010030 1001003c table a.c main 00000004
-#image
-entry 10010000
-segment 10010000 5 3c 38600001 546c103a 3d8c1001 818c0030 7d8903a6 4e800420 3860000a 4e800020 38600014 4e800020 3860001e 4e800020 10010018 10010020 1001002c
-symbol 10010000 12 fff1 main
-#1
-no
-rule 13 table-word
-place a.c main 00000004
-item 2
-wanted 10010028
-found 1001002c
-#image
-entry 10010000
-segment 10010000 5 3c 38600001 546c103a 3d8c1001 818c0030 7d8903a6 4e800420 3860000a 4e800020 38600014 4e800020 3860001e 4e800020 10010018 1001001c 1001002c
-symbol 10010000 12 fff1 main
-#1
-no
-rule 13 table-word
-place a.c main 00000004
-item 1
-wanted 10010020
-found 1001001c
-#image
-entry 10010000
-segment 10010000 5 3c 38600001 546c103a 3d8c1001 818c0032 7d8903a6 4e800420 3860000a 4e800020 38600014 4e800020 3860001e 4e800020 10010018 10010020 10010028
-symbol 10010000 12 fff1 main
-#1
-no
-rule 12 table-place
-place a.c main 00000004
-item 0
-wanted 00000000
-found 10010032
-#image
-entry 10010000
-segment 10010000 5 38 38600001 546c103a 3d8c1001 818c0030 7d8903a6 4e800420 3860000a 4e800020 38600014 4e800020 3860001e 4e800020 10010018 10010020
-symbol 10010000 12 fff1 main
-#1
-no
-rule 12 table-place
-place a.c main 00000004
-item 0
-wanted 00000000
-found 10010030"#,
     r#"overlap
 #a.json
 {"valex":"unit","version":1,"unit":"a.c","functions":[{"name":"main","static":false,"code":[["addi",3,0,7],["blr"]]},
@@ -561,8 +489,9 @@ loaded 16
 10010000 10010008 function a.c main
 10010008 10010010 function a.c f"#,
     r#"the address of an external
-#foreign
-["0x10020000","0x10020100"]
+#layout
+area code 10010000 10011000
+foreign 10020000 10020100
 #a.json
 {"valex":"unit","version":1,"unit":"a.c","functions":[{"name":"main","static":false,"code":[["addis",3,0,["ha","putw",0]],["addi",3,3,["lo","putw",0]],["blr"]]}],
 "variables":[],"externals":[{"name":"putw","sig":null}]}
@@ -581,6 +510,12 @@ padding 0
 foreign 0
 loaded 12
 10010000 1001000c function a.c main
+#run 0 10
+assembly
+undefined final
+image
+ended 10020000
+same
 #image
 entry 10010000
 segment 10010000 5 c 3c601002 38630000 4e800020
@@ -609,10 +544,18 @@ rule 5 external-place
 place a.c putw 00000000
 item 2
 wanted 00000000
+found 10020100
+#run 1 10
+no
+rule 5 external-place
+place a.c putw 00000000
+item 2
+wanted 00000000
 found 10020100"#,
     r#"two externals at one address
-#foreign
-["0x10020000","0x10020100"]
+#layout
+area code 10010000 10011000
+foreign 10020000 10020100
 #a.json
 {"valex":"unit","version":1,"unit":"a.c","functions":[{"name":"main","static":false,"code":[["bl","e"],["bl","f"],["blr"]]}],
 "variables":[],"externals":[{"name":"e","sig":null},{"name":"f","sig":null}]}
@@ -628,25 +571,14 @@ rule 5 external-place
 place a.c f 00000000
 item 3
 wanted 00000000
+found 10020000
+#run 1 10
+no
+rule 5 external-place
+place a.c f 00000000
+item 3
+wanted 00000000
 found 10020000"#,
-    r#"a read without a value
-#a.json
-{"valex":"unit","version":1,"unit":"a.c","functions":[{"name":"main","static":false,"code":[["allocframe",16],["or",4,1,1],["freeframe",16],["lwz",3,8,4],["blr"]]}],
-"variables":[],"externals":[]}
-#image
-entry 10010000
-segment 10010000 5 14 9421fff0 7c240b78 38210010 80640008 4e800020
-symbol 10010000 12 fff1 main
-#0
-yes
-functions 1 bytes 20
-tables 0 bytes 0
-variables 0 bytes 0
-externals 0
-padding 0
-foreign 0
-loaded 20
-10010000 10010014 function a.c main"#,
     r#"a jump to another unit
 #a.json
 {"valex":"unit","version":1,"unit":"a.c","functions":[{"name":"main","static":false,"code":[["bs","g"]]}],
@@ -670,6 +602,12 @@ foreign 0
 loaded 12
 10010000 10010004 function a.c main
 10010004 1001000c function b.c g
+#run 0 10
+assembly
+ended 00000007
+image
+ended 00000007
+same
 #image
 entry 10010000
 segment 10010000 5 c 48000008 38600007 4e800020
@@ -681,7 +619,13 @@ rule 10 branch
 place a.c main 00000000
 item 0
 wanted 10010004
-found 10010008"#,
+found 10010008
+#run 7 10
+assembly
+ended 00000007
+image
+ended a5a5a5a5
+differ 0"#,
     r#"static functions of one name
 #a.json
 {"valex":"unit","version":1,"unit":"a.c","functions":[{"name":"main","static":false,"code":[["bs","h"]]},
@@ -711,6 +655,12 @@ loaded 24
 10010004 1001000c function a.c h
 1001000c 10010014 function b.c h
 10010014 10010018 function b.c g
+#run 0 10
+assembly
+ended 00000001
+image
+ended 00000001
+same
 #image
 entry 10010000
 segment 10010000 5 18 48000004 38600001 4e800020 38600002 4e800020 4bffffec
@@ -719,6 +669,13 @@ symbol 10010004 2 fff1 h
 symbol 1001000c 2 fff1 h
 symbol 10010014 12 fff1 g
 #1
+no
+rule 3 none-fits
+place b.c h 00000000
+item 0
+wanted 00000001
+found 00000000
+#run 1 10
 no
 rule 3 none-fits
 place b.c h 00000000
@@ -737,6 +694,8 @@ entry 10010000
 segment 10010000 5 8 38600007 4e800020
 symbol 10010000 12 fff1 main
 #3
+refused b.json link 1 unit-twice a.c
+#run 3 10
 refused b.json link 1 unit-twice a.c"#,
     r#"a function defined twice
 #a.json
@@ -760,6 +719,8 @@ entry 10010000
 segment 10010000 5 8 38600007 4e800020
 symbol 10010000 12 fff1 main
 #3
+refused a.json link 3 undeclared f
+#run 3 10
 refused a.json link 3 undeclared f"#,
     r#"two signatures
 #a.json
@@ -783,11 +744,14 @@ entry 10010000
 segment 10010000 5 8 38600007 4e800020
 symbol 10010000 12 fff1 main
 #3
+refused layout.json link 5 no-entry main
+#run 3 10
 refused layout.json link 5 no-entry main"#,
 ];
 
-/// Each has a name, and then sections that begin with a line of their kind: the areas behind that of the code, the foreign ranges and
-/// the pins of the layout, the units, and images, as `test_images` reads them, each with the status and the text of its answer.
+/// Each has a name, and then sections that begin with a line of their kind: the layout where it is another than that of one area, and
+/// the units and images; `test_images` reads layouts and images. Behind each image stand the status and the text of what `check`
+/// answers, and those of `run` with the steps and the replies.
 pub fn code_programs() -> &'static [&'static str] {
     &CODE_PROGRAMS
 }

@@ -1,9 +1,10 @@
-//! Programs with variables, and what `check` answers on their images.
+//! Programs with variables, and what `check` and `run` answer on their images.
 
-static DATA_PROGRAMS: [&str; 20] = [
+static DATA_PROGRAMS: [&str; 19] = [
     r#"read-only load
-#areas
-,{"name":"data","range":["0x10018000","0x10019000"],"kind":"data"}
+#layout
+area code 10010000 10011000
+area data 10018000 10019000
 #a.json
 {"valex":"unit","version":1,"unit":"a.c","functions":[{"name":"main","static":false,"code":[["addis",4,0,["ha","x",0]],["lwz",3,["lo","x",0],4],["blr"]]}],
 "variables":[{"name":"x","static":false,"writable":false,"align":4,"init":[["i32",42]]}],"externals":[]}
@@ -24,6 +25,12 @@ foreign 0
 loaded 16
 10010000 1001000c function a.c main
 10018000 10018004 variable a.c x
+#run 0 10
+assembly
+ended 0000002a
+image
+ended 0000002a
+same
 #image
 entry 10010000
 segment 10010000 5 c 3c801001 80648000 4e800020
@@ -37,6 +44,12 @@ place a.c main 00000000
 item 0
 wanted 3c801002
 found 3c801001
+#run 7 10
+assembly
+ended 0000002a
+image
+faulted unmapped
+differ 0
 #image
 entry 10010000
 segment 10010000 5 c 3c801002 80648004 4e800020
@@ -90,8 +103,9 @@ item 0
 wanted 00000000
 found 00000100"#,
     r#"string literals
-#areas
-,{"name":"const","range":["0x10018000","0x10019000"],"kind":"const"}
+#layout
+area code 10010000 10011000
+area const 10018000 10019000
 #a.json
 {"valex":"unit","version":1,"unit":"a.c","functions":[{"name":"main","static":false,"code":[["addis",3,0,["ha","__stringlit_1",0]],["addi",3,3,["lo","__stringlit_1",0]],["blr"]]}],
 "variables":[{"name":"__stringlit_1","static":true,"writable":false,"align":1,"init":[["bytes","686900"]]}],"externals":[]}
@@ -121,8 +135,9 @@ loaded 35
 10018003 10018008 padding
 10018008 1001800b variable b.c __stringlit_1"#,
     r#"string literals without a use
-#areas
-,{"name":"const","range":["0x10018000","0x10019000"],"kind":"const"}
+#layout
+area code 10010000 10011000
+area const 10018000 10019000
 #a.json
 {"valex":"unit","version":1,"unit":"a.c","functions":[{"name":"main","static":false,"code":[["imm",3,7],["blr"]]}],
 "variables":[{"name":"__stringlit_1","static":true,"writable":false,"align":1,"init":[["bytes","686900"]]}],"externals":[]}
@@ -145,10 +160,11 @@ item 0
 wanted 00000001
 found 00000002"#,
     r#"pins of string literals
-#areas
-,{"name":"const","range":["0x10018000","0x10019000"],"kind":"const"}
-#pins
-{"unit":"a.c","name":"__stringlit_1","address":"0x10018000"},{"unit":"b.c","name":"__stringlit_1","address":"0x10018008"}
+#layout
+area code 10010000 10011000
+area const 10018000 10019000
+pin a.c __stringlit_1 10018000
+pin b.c __stringlit_1 10018008
 #a.json
 {"valex":"unit","version":1,"unit":"a.c","functions":[{"name":"main","static":false,"code":[["imm",3,7],["blr"]]}],
 "variables":[{"name":"__stringlit_1","static":true,"writable":false,"align":1,"init":[["bytes","686900"]]}],"externals":[]}
@@ -178,8 +194,9 @@ loaded 27
 10018003 10018008 padding
 10018008 1001800b variable b.c __stringlit_1"#,
     r#"small data of r13
-#areas
-,{"name":"sda13","range":["0x10030000","0x10031000"],"kind":"sda13"}
+#layout
+area code 10010000 10011000
+area sda13 10030000 10031000
 #a.json
 {"valex":"unit","version":1,"unit":"a.c","functions":[{"name":"main","static":false,"code":[["lwz",3,["sda","x",0],0],["blr"]]}],
 "variables":[{"name":"x","static":false,"writable":true,"align":4,"init":[["i32",5]]}],"externals":[]}
@@ -199,10 +216,17 @@ padding 0
 foreign 0
 loaded 12
 10010000 10010008 function a.c main
-10030010 10030014 variable a.c x"#,
+10030010 10030014 variable a.c x
+#run 0 10
+assembly
+ended 00000005
+image
+ended 00000005
+same"#,
     r#"small data of r2
-#areas
-,{"name":"sda2","range":["0x10040000","0x10041000"],"kind":"sda2"}
+#layout
+area code 10010000 10011000
+area sda2 10040000 10041000
 #a.json
 {"valex":"unit","version":1,"unit":"a.c","functions":[{"name":"main","static":false,"code":[["lwz",3,["sda","x",0],0],["blr"]]}],
 "variables":[{"name":"x","static":false,"writable":false,"align":4,"init":[["i32",5]]}],"externals":[]}
@@ -222,10 +246,17 @@ padding 0
 foreign 0
 loaded 12
 10010000 10010008 function a.c main
-10040010 10040014 variable a.c x"#,
+10040010 10040014 variable a.c x
+#run 0 10
+assembly
+ended 00000005
+image
+ended 00000005
+same"#,
     r#"small data of 0
-#areas
-,{"name":"sda0","range":["0x00001000","0x00002000"],"kind":"sda0"}
+#layout
+area code 10010000 10011000
+area sda0 00001000 00002000
 #a.json
 {"valex":"unit","version":1,"unit":"a.c","functions":[{"name":"main","static":false,"code":[["lwz",3,["sda","x",0],0],["blr"]]}],
 "variables":[{"name":"x","static":false,"writable":true,"align":4,"init":[["i32",5]]}],"externals":[]}
@@ -245,10 +276,17 @@ padding 0
 foreign 0
 loaded 12
 00001010 00001014 variable a.c x
-10010000 10010008 function a.c main"#,
+10010000 10010008 function a.c main
+#run 0 10
+assembly
+ended 00000005
+image
+ended 00000005
+same"#,
     r#"small data by the wrong register
-#areas
-,{"name":"sda2","range":["0x10038000","0x10039000"],"kind":"sda2"}
+#layout
+area code 10010000 10011000
+area sda2 10038000 10039000
 #a.json
 {"valex":"unit","version":1,"unit":"a.c","functions":[{"name":"main","static":false,"code":[["lwz",3,["sda","x",0],0],["blr"]]}],
 "variables":[{"name":"x","static":false,"writable":false,"align":4,"init":[["i32",5]]}],"externals":[]}
@@ -266,8 +304,9 @@ item 3
 wanted 0000000d
 found 00000002"#,
     r#"small data at the wrong address
-#areas
-,{"name":"sda13","range":["0x10030000","0x10031000"],"kind":"sda13"}
+#layout
+area code 10010000 10011000
+area sda13 10030000 10031000
 #a.json
 {"valex":"unit","version":1,"unit":"a.c","functions":[{"name":"main","static":false,"code":[["lwz",3,["sda","x",0],0],["blr"]]}],
 "variables":[{"name":"x","static":false,"writable":true,"align":4,"init":[["i32",5]]}],"externals":[]}
@@ -285,8 +324,9 @@ item 2
 wanted 10030010
 found 10030014"#,
     r#"small data by another register
-#areas
-,{"name":"sda13","range":["0x10030000","0x10031000"],"kind":"sda13"}
+#layout
+area code 10010000 10011000
+area sda13 10030000 10031000
 #a.json
 {"valex":"unit","version":1,"unit":"a.c","functions":[{"name":"main","static":false,"code":[["lwz",3,["sda","x",0],0],["blr"]]}],
 "variables":[{"name":"x","static":false,"writable":true,"align":4,"init":[["i32",5]]}],"externals":[]}
@@ -304,8 +344,9 @@ item 1
 wanted 0000000d
 found 00000003"#,
     r#"commons
-#areas
-,{"name":"data","range":["0x10018000","0x10019000"],"kind":"data"}
+#layout
+area code 10010000 10011000
+area data 10018000 10019000
 #a.json
 {"valex":"unit","version":1,"unit":"a.c","functions":[{"name":"main","static":false,"code":[["addi",3,0,7],["blr"]]}],
 "variables":[{"name":"x","static":false,"writable":true,"align":4,"init":[["space",4]]}],"externals":[]}
@@ -332,8 +373,9 @@ loaded 20
 10010008 10010010 function b.c g
 10018000 10018004 variable a.c x"#,
     r#"commons of two sizes
-#areas
-,{"name":"data","range":["0x10018000","0x10019000"],"kind":"data"}
+#layout
+area code 10010000 10011000
+area data 10018000 10019000
 #a.json
 {"valex":"unit","version":1,"unit":"a.c","functions":[{"name":"main","static":false,"code":[["addi",3,0,7],["blr"]]}],
 "variables":[{"name":"x","static":false,"writable":true,"align":4,"init":[["space",4]]}],"externals":[]}
@@ -350,8 +392,9 @@ symbol 10018000 11 fff1 x
 #3
 refused b.json link 2 defined-twice x"#,
     r#"zero fill
-#areas
-,{"name":"data","range":["0x10018000","0x1001800c"],"kind":"data"}
+#layout
+area code 10010000 10011000
+area data 10018000 1001800c
 #a.json
 {"valex":"unit","version":1,"unit":"a.c","functions":[{"name":"main","static":false,"code":[["addi",3,0,7],["blr"]]}],
 "variables":[{"name":"x","static":false,"writable":true,"align":4,"init":[["i32",5]]},
@@ -449,8 +492,9 @@ item 3
 wanted 00000000
 found 10010008"#,
     r#"a variable that is not aligned
-#areas
-,{"name":"data","range":["0x10018000","0x10019000"],"kind":"data"}
+#layout
+area code 10010000 10011000
+area data 10018000 10019000
 #a.json
 {"valex":"unit","version":1,"unit":"a.c","functions":[{"name":"main","static":false,"code":[["addi",3,0,7],["blr"]]}],
 "variables":[{"name":"x","static":false,"writable":true,"align":4,"init":[["i32",5]]}],"externals":[]}
@@ -468,8 +512,9 @@ item 2
 wanted 00000000
 found 10018001"#,
     r#"a word like a nop among constants
-#areas
-,{"name":"const","range":["0x10018000","0x10019000"],"kind":"const"}
+#layout
+area code 10010000 10011000
+area const 10018000 10019000
 #a.json
 {"valex":"unit","version":1,"unit":"a.c","functions":[{"name":"main","static":false,"code":[["addi",3,0,7],["blr"]]}],
 "variables":[],"externals":[]}
@@ -486,10 +531,10 @@ item 0
 wanted 00000000
 found 00000060"#,
     r#"externals
-#areas
-,{"name":"data","range":["0x10018000","0x10019000"],"kind":"data"}
-#foreign
-["0x10020000","0x10020100"]
+#layout
+area code 10010000 10011000
+area data 10018000 10019000
+foreign 10020000 10020100
 #a.json
 {"valex":"unit","version":1,"unit":"a.c","functions":[{"name":"main","static":false,"code":[["allocframe",16],["mflr",0],["stw",0,8,1],["addis",3,0,["ha","x",0]],["addi",3,3,["lo","x",0]],["bl","putw"],["addi",3,1,12],["bl","putw"],
 ["imm",3,7],["bl","putw"],["imm",3,0],["lwz",0,8,1],["mtlr",0],["freeframe",16],["blr"]]}],
@@ -512,6 +557,73 @@ foreign 0
 loaded 64
 10010000 1001003c function a.c main
 10018000 10018004 variable a.c x
+#run 0 100 0,0,0
+assembly
+call putw 10018000
+call putw 2000ffec
+call putw 00000007
+ended 00000000
+image
+call putw 10018000
+call putw 2000ffec
+call putw 00000007
+ended 00000000
+same
+#run 0 100 0,0
+assembly
+call putw 10018000
+call putw 2000ffec
+starved
+image
+call putw 10018000
+call putw 2000ffec
+starved
+same
+#run 0 3 0,0,0
+assembly
+going
+image
+call putw 10018000
+call putw 2000ffec
+call putw 00000007
+going
+same
+#image
+entry 10010000
+segment 10010000 5 3c 9421fff0 7c0802a6 90010008 3c601002 38638000 4800ffed 3861000c 4800ffe5 38600008 4800ffdd 38600000 80010008 7c0803a6 38210010 4e800020
+segment 10018000 6 4 00000000
+symbol 10010000 12 fff1 main
+symbol 10018000 11 fff1 x
+symbol 10020000 10 fff1 putw
+#1
+no
+rule 8 field
+place a.c main 00000020
+item 0
+wanted 38600007
+found 38600008
+#run 7 100 0,0,0
+assembly
+call putw 10018000
+call putw 2000ffec
+call putw 00000007
+ended 00000000
+image
+call putw 10018000
+call putw 2000ffec
+call putw 00000008
+ended 00000000
+differ 2
+#run 0 100 0,0
+assembly
+call putw 10018000
+call putw 2000ffec
+starved
+image
+call putw 10018000
+call putw 2000ffec
+starved
+same
 #image
 entry 10010000
 segment 10010000 5 3c 9421fff0 7c0802a6 90010008 3c601002 38638000 4800ffed 3861000c 4800ffe5 38600007 4800ffdd 38600000 80010008 7c0803a6 38210010 4e800020
@@ -520,6 +632,13 @@ symbol 10010000 12 fff1 main
 symbol 10018000 11 fff1 x
 symbol 10020002 10 fff1 putw
 #1
+no
+rule 5 external-place
+place a.c putw 00000000
+item 1
+wanted 00000000
+found 10020002
+#run 1 10
 no
 rule 5 external-place
 place a.c putw 00000000
@@ -552,37 +671,21 @@ rule 10 branch
 place a.c main 0000001c
 item 0
 wanted 10020000
-found 10020004"#,
-    r#"an external that reads a buffer
-#areas
-,{"name":"const","range":["0x10018000","0x10019000"],"kind":"const"}
-#foreign
-["0x10020000","0x10020100"]
-#a.json
-{"valex":"unit","version":2,"unit":"a.c","functions":[{"name":"main","static":false,"code":[["allocframe",16],["mflr",0],["stw",0,8,1],["addis",3,0,["ha","s",0]],["addi",3,3,["lo","s",0]],["imm",4,2],["bl","write"],
-["imm",3,0],["lwz",0,8,1],["mtlr",0],["freeframe",16],["blr"]]}],
-"variables":[{"name":"s","static":false,"writable":false,"align":1,"init":[["bytes","6869"]]}],"externals":[{"name":"write","sig":{"args":["w","w"],"result":"none","buffers":[["in",0,["arg",1]]]}}]}
-#image
-entry 10010000
-segment 10010000 5 30 9421fff0 7c0802a6 90010008 3c601002 38638000 38800002 4800ffe9 38600000 80010008 7c0803a6 38210010 4e800020
-segment 10018000 4 2 6869
-symbol 10010000 12 fff1 main
-symbol 10018000 11 fff1 s
-symbol 10020000 10 fff1 write
-#0
-yes
-functions 1 bytes 48
-tables 0 bytes 0
-variables 1 bytes 2
-externals 1
-padding 0
-foreign 0
-loaded 50
-10010000 10010030 function a.c main
-10018000 10018002 variable a.c s"#,
+found 10020004
+#run 7 100 0,0,0
+assembly
+call putw 10018000
+call putw 2000ffec
+call putw 00000007
+ended 00000000
+image
+call putw 10018000
+faulted unmapped
+differ 1"#,
     r#"addresses and empty variables
-#areas
-,{"name":"data","range":["0x10018000","0x10019000"],"kind":"data"}
+#layout
+area code 10010000 10011000
+area data 10018000 10019000
 #a.json
 {"valex":"unit","version":1,"unit":"a.c","functions":[{"name":"main","static":false,"code":[["addi",3,0,7],["blr"]]}],
 "variables":[{"name":"p","static":false,"writable":true,"align":4,"init":[["addr","main",0],["addr","p",4],["i16",-2],["i8",255]]},
@@ -646,11 +749,12 @@ entry 10010000
 segment 10010000 5 8 38600007 4e800020
 symbol 10010000 12 fff1 main
 #3
+refused a.json link 7 too-big w
+#run 3 10
 refused a.json link 7 too-big w"#,
 ];
 
-/// Each has a name, and then sections that begin with a line of their kind: the areas behind that of the code, the foreign ranges and
-/// the pins of the layout, the units, and images, as `test_images` reads them, each with the status and the text of its answer.
+/// In the form of `code_programs`.
 pub fn data_programs() -> &'static [&'static str] {
     &DATA_PROGRAMS
 }

@@ -12,6 +12,8 @@ mod refused_rows;
 #[cfg(test)]
 mod rows;
 #[cfg(test)]
+mod run_rows;
+#[cfg(test)]
 mod tests;
 #[cfg(test)]
 mod upgrade_rows;

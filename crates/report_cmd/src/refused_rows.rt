@@ -1,4 +1,4 @@
-//! Layouts, images and units that are refused, as changes of those that `check` accepts.
+//! Layouts, images, units and replies that are refused, as changes of those that `run` accepts.
 
 /// A text with another text in place of a part, and what is printed of it.
 type Changed = (&'static str, &'static str, &'static str);
@@ -184,6 +184,64 @@ static UNITS: [Changed; 16] = [
     ),
 ];
 
+static REPLIES: [Changed; 11] = [
+    (
+        r#"{"valex""#,
+        r#""valex""#,
+        "refused replies.json replies 1 not-json .\n",
+    ),
+    (
+        r#""version":2,"#,
+        r#""#,
+        "refused replies.json replies 2 missing version\n",
+    ),
+    (
+        r#""r4":0,"#,
+        r#""#,
+        "refused replies.json replies 2 missing replies/2/r4\n",
+    ),
+    (
+        r#"[7,"#,
+        r#"[-1.5,"#,
+        "refused replies.json replies 3 wrong-kind replies/0\n",
+    ),
+    (
+        r#""version":2"#,
+        r#""version":1"#,
+        "refused replies.json replies 3 wrong-kind replies/2\n",
+    ),
+    (
+        r#"[7,"#,
+        r#"[4294967296,"#,
+        "refused replies.json replies 4 out-of-range replies/0\n",
+    ),
+    (
+        r#"[0,1]"#,
+        r#"[0]"#,
+        "refused replies.json replies 4 out-of-range replies/1\n",
+    ),
+    (
+        r#""00""#,
+        r#""0""#,
+        "refused replies.json replies 4 out-of-range replies/2/fills/0\n",
+    ),
+    (
+        r#""replies","#,
+        r#""unit","#,
+        "refused replies.json replies 5 unknown-word valex\n",
+    ),
+    (
+        r#""version":2"#,
+        r#""version":3"#,
+        "refused replies.json replies 6 version version\n",
+    ),
+    (
+        r#"["00"]"#,
+        r#"["","","","","","","","",""]"#,
+        "refused replies.json replies 9 limit replies/2/fills 8\n",
+    ),
+];
+
 /// The place of bytes in the image, others for them, and what is printed.
 static IMAGES: [(usize, &[u8], &str); 22] = [
     (32, &[0xff], "refused image.elf elf 1 short 32\n"),
@@ -224,6 +282,10 @@ pub fn layouts() -> &'static [Changed] {
 
 pub fn units() -> &'static [Changed] {
     &UNITS
+}
+
+pub fn replies() -> &'static [Changed] {
+    &REPLIES
 }
 
 pub fn images() -> &'static [(usize, &'static [u8], &'static str)] {

@@ -3,16 +3,22 @@
 use crate::answer::valex;
 use crate::code_rows::code_programs;
 use crate::data_rows::data_programs;
-use crate::refused_rows::{images, layouts, units};
+use crate::refused_rows::{images, layouts, replies, units};
+use crate::run_rows::{run_programs, run_words};
 use crate::upgrade_rows::upgrades;
 use outside::mem_sink::MemSink;
 use outside::mem_store::MemStore;
 use std::alloc::{AllocError, Global};
 use std::process::Abort;
 use std::test::Fail;
+use test_images::layouts::layout_of;
 use test_images::lines::image_of;
 
 const CHECK: &str = "check layout.json image.elf a.json";
+
+const RUN: &str = "run layout.json image.elf replies.json 10 a.json";
+
+const LAYOUT: &str = "area code 10010000 10011000";
 
 const UNIT: &str =
     r#"{"valex":"unit","version":1,"unit":"a.c","functions":[{"name":"main","static":false,"code":[["addi",3,0,7],["blr"]]}],"variables":[],"externals":[]}"#;
@@ -27,13 +33,19 @@ const REPORT: &str =
 const USAGE: &str =
     "usage: valex check LAYOUT IMAGE UNIT...\n       valex run LAYOUT IMAGE REPLIES STEPS UNIT...\n       valex show IMAGE ADDRESS COUNT\n       valex make SEED COUNT\n       valex upgrade UNIT\n";
 
-fn layout_of(alloc: Global, parts: &[&str; 3]) -> Result<String, AllocError> {
-    let [areas, foreign, pins] = *parts;
-    let front =
-        r#""entry":"main","stop":"0x10000000","stack":["0x20000000","0x20010000"],"r13":"0x10038000","r2":"0x10048000","areas":[{"name":"text","range":["0x10010000","0x10011000"],"kind":"code"}"#;
-    format!(in alloc;
-        "{{\"valex\":\"layout\",\"version\":1,{front}{areas}],\"foreign\":[{foreign}],\"pins\":[{pins}]}}"
-    )
+const REPLIES: &str =
+    r#"{"valex":"replies","version":2,"replies":[7,[0,1],{"r3":0,"r4":0,"fills":["00"]}]}"#;
+
+/// The first section of a kind in a program; no text where it has none.
+fn section<'a>(program: &'a str, kind: &str) -> &'a str {
+    for part in program.split("\n#") {
+        if let Some((first, text)) = part.split_once('\n') {
+            if first == kind {
+                return text;
+            }
+        }
+    }
+    ""
 }
 
 fn words_of(alloc: Global, line: &str) -> Result<Vec<String>, AllocError> {
@@ -44,12 +56,14 @@ fn words_of(alloc: Global, line: &str) -> Result<Vec<String>, AllocError> {
     Ok(words)
 }
 
-/// The three files that `CHECK` accepts.
+/// The files that `CHECK` and `RUN` accept.
 fn store_of(alloc: Global) -> Result<MemStore, Fail> {
     let mut store = MemStore::new(alloc);
+    let layout = layout_of(alloc, LAYOUT).ok_or("a layout")?;
     let image = image_of(alloc, IMAGE).ok_or("an image")?;
-    store.add("layout.json", layout_of(alloc, &["", "", ""])?.as_bytes())?;
+    store.add("layout.json", layout.as_bytes())?;
     store.add("image.elf", &image)?;
+    store.add("replies.json", REPLIES.as_bytes())?;
     store.add("a.json", UNIT.as_bytes())?;
     Ok(store)
 }
@@ -75,48 +89,65 @@ fn answers(
     Ok(())
 }
 
-/// The first section of a kind in a program; no text where it has none.
-fn section<'a>(program: &'a str, kind: &str) -> &'a str {
-    for part in program.split("\n#") {
-        if let Some((first, text)) = part.split_once('\n') {
-            if first == kind {
-                return text;
-            }
-        }
-    }
-    ""
-}
-
 /// The files of a program but its image.
 fn program_store(alloc: Global, program: &str) -> Result<MemStore, Fail> {
     let mut store = MemStore::new(alloc);
-    let parts = [
-        section(program, "areas"),
-        section(program, "foreign"),
-        section(program, "pins"),
-    ];
-    store.add("layout.json", layout_of(alloc, &parts)?.as_bytes())?;
+    let lines = match section(program, "layout") {
+        "" => LAYOUT,
+        lines => lines,
+    };
+    let layout = layout_of(alloc, lines).ok_or("a layout")?;
+    store.add("layout.json", layout.as_bytes())?;
     for name in ["a.json", "b.json"] {
         store.add(name, section(program, name).as_bytes())?;
     }
     Ok(store)
 }
 
+/// Asserts what `run` answers by its status, steps and replies.
+fn runs(
+    rt: &impl Abort,
+    alloc: Global,
+    units: &str,
+    store: &mut MemStore,
+    line: &str,
+    text: &str,
+) -> Result<(), Fail> {
+    let (status, rest) = line.split_once(' ').ok_or("a status")?;
+    let (steps, replies) = rest.split_once(' ').unwrap_or((rest, ""));
+    let replies = format!(in alloc;
+        "{{\"valex\":\"replies\",\"version\":2,\"replies\":[{replies}]}}"
+    )?;
+    store.add("replies.json", replies.as_bytes())?;
+    let words = format!(in alloc; "run layout.json image.elf replies.json {steps} {units}")?;
+    answers(
+        rt,
+        alloc,
+        words.as_str(),
+        store,
+        status.parse::<u8>()?,
+        text,
+    )
+}
+
 /// Asserts the answers on the images of a program.
 fn judges(rt: &impl Abort, alloc: Global, program: &str) -> Result<(), Fail> {
-    let words = match section(program, "b.json") {
-        "" => CHECK,
-        _ => "check layout.json image.elf a.json b.json",
+    let units = match section(program, "b.json") {
+        "" => "a.json",
+        _ => "a.json b.json",
     };
+    let check = format!(in alloc; "check layout.json image.elf {units}")?;
     let mut store = program_store(alloc, program)?;
     for part in program.split("\n#") {
         let (kind, text) = part.split_once('\n').unwrap_or((part, ""));
+        let line = format!(in alloc; "{text}\n")?;
         if kind == "image" {
             let image = image_of(alloc, text).ok_or("an image")?;
             store.add("image.elf", &image)?;
+        } else if let Some(run) = kind.strip_prefix("run ") {
+            runs(rt, alloc, units, &mut store, run, line.as_str())?;
         } else if let Ok(status) = kind.parse::<u8>() {
-            let text = format!(in alloc; "{text}\n")?;
-            answers(rt, alloc, words, &mut store, status, text.as_str())?;
+            answers(rt, alloc, check.as_str(), &mut store, status, line.as_str())?;
         }
     }
     Ok(())
@@ -138,6 +169,32 @@ fn programs_with_variables(rt: HostRuntime) -> Result<(), Fail> {
     Ok(())
 }
 
+#[test]
+fn programs_that_run(rt: HostRuntime) -> Result<(), Fail> {
+    for program in run_programs() {
+        judges(&rt, rt.alloc(), *program)?;
+    }
+    Ok(())
+}
+
+#[test]
+fn words_of_runs(rt: HostRuntime) -> Result<(), Fail> {
+    let alloc = rt.alloc();
+    for row in run_words() {
+        let (words, answer) = row.split_once(" => ").ok_or("an answer")?;
+        let (status, text) = answer.split_once(' ').ok_or("a text")?;
+        let line = format!(in alloc; "{text}\n")?;
+        let text = match text {
+            "usage" => USAGE,
+            _ => line.as_str(),
+        };
+        let mut store = store_of(alloc)?;
+        store.add("x.json", b"{")?;
+        answers(&rt, alloc, words, &mut store, status.parse::<u8>()?, text)?;
+    }
+    Ok(())
+}
+
 /// A text with another one in place of a part of it.
 fn changed(alloc: Global, text: &str, old: &str, new: &str) -> Result<String, Fail> {
     let (front, back) = text.split_once(old).ok_or("a part of the text")?;
@@ -147,15 +204,18 @@ fn changed(alloc: Global, text: &str, old: &str, new: &str) -> Result<String, Fa
 #[test]
 fn texts_that_are_refused(rt: HostRuntime) -> Result<(), Fail> {
     let alloc = rt.alloc();
-    let layout = layout_of(alloc, &["", "", ""])?;
-    for (file, base, rows) in [
-        ("layout.json", layout.as_str(), layouts()),
-        ("a.json", UNIT, units()),
+    let layout = layout_of(alloc, LAYOUT).ok_or("a layout")?;
+    for (words, file, base, rows) in [
+        (CHECK, "layout.json", layout.as_str(), layouts()),
+        (CHECK, "a.json", UNIT, units()),
+        (RUN, "layout.json", layout.as_str(), layouts()),
+        (RUN, "a.json", UNIT, units()),
+        (RUN, "replies.json", REPLIES, replies()),
     ] {
         for (old, new, text) in rows {
             let mut store = store_of(alloc)?;
             store.add(file, changed(alloc, base, *old, *new)?.as_bytes())?;
-            answers(&rt, alloc, CHECK, &mut store, 3, *text)?;
+            answers(&rt, alloc, words, &mut store, 3, *text)?;
         }
     }
     Ok(())
@@ -178,15 +238,9 @@ fn images_that_are_refused(rt: HostRuntime) -> Result<(), Fail> {
     for (place, bytes, text) in images() {
         let mut store = store_of(alloc)?;
         store.add("image.elf", &image_with(alloc, *place, *bytes)?)?;
-        answers(&rt, alloc, CHECK, &mut store, 3, *text)?;
-        answers(
-            &rt,
-            alloc,
-            "show image.elf 0x10010000 3",
-            &mut store,
-            3,
-            *text,
-        )?;
+        for words in [CHECK, RUN, "show image.elf 0x10010000 3"] {
+            answers(&rt, alloc, words, &mut store, 3, *text)?;
+        }
     }
     Ok(())
 }
@@ -247,7 +301,7 @@ fn named(programs: &[&'static str], name: &str) -> Option<&'static str> {
 
 #[test]
 fn each_claimed_byte_counts(rt: HostRuntime) -> Result<(), Fail> {
-    let table = named(code_programs(), "jump table").ok_or("a program")?;
+    let table = named(run_programs(), "jump table").ok_or("a program")?;
     let load = named(data_programs(), "read-only load").ok_or("a program")?;
     bytes_count(&rt, rt.alloc(), table, 84, 60)?;
     bytes_count(&rt, rt.alloc(), load, 128, 4)
@@ -445,7 +499,10 @@ fn cases() -> &'static [Case] {
 
 fn add(alloc: Global, store: &mut MemStore, name: &str, content: &str) -> Result<(), Fail> {
     match content {
-        "layout" => store.add(name, layout_of(alloc, &["", "", ""])?.as_bytes())?,
+        "layout" => {
+            let layout = layout_of(alloc, LAYOUT).ok_or("a layout")?;
+            store.add(name, layout.as_bytes())?;
+        }
         "image" => store.add(name, &image_of(alloc, IMAGE).ok_or("an image")?)?,
         "unit" => store.add(name, UNIT.as_bytes())?,
         text => store.add(name, text.as_bytes())?,
@@ -512,6 +569,12 @@ fn files_that_are_too_long(rt: HostRuntime) -> Result<(), Fail> {
             "a.json",
             8_388_609,
             "refused a.json store 1 too-long 8388608\n",
+        ),
+        (
+            RUN,
+            "replies.json",
+            8_388_609,
+            "refused replies.json store 1 too-long 8388608\n",
         ),
         (
             "show image.elf 0x0 1",
@@ -610,6 +673,9 @@ fn reads_and_puts_that_fail(rt: HostRuntime) -> Result<(), Fail> {
         (CHECK, 2, 1, 64, 5, ""),
         (CHECK, 0, 2, 4, 5, "yes\n"),
         (CHECK, 4, 200, 1, 0, REPORT),
+        (RUN, 3, 0, 64, 4, "read fault replies.json\n"),
+        (RUN, 4, 0, 64, 4, "read fault a.json\n"),
+        (RUN, 0, 2, 9, 5, "assembly\n"),
         (
             "show image.elf 0x10010000 3",
             1,

@@ -41,21 +41,28 @@ module _ (w : World) (ok : Fits w) where
   pub simulates_all : Simulates w
   simulates_all s t r rs zero fits = record { steps = 0; few = omega arith; outcome = refl; events = tt }
   simulates_all s t r rs (suc n) fits =
-      let a = at (asm_step w.program s (slice_get rs 0)) (step_law w ok s t (slice_get rs 0) r) (λ s' t' r' rs. simulates_all s' t' r' rs n) fits in
+      let a = at (asm_step w.program s (slice_get rs 0)) (step_law w ok s t (slice_get rs 0) r)
+      (λ s' t' r' rs. simulates_all s' t' r' rs n) fits in
       record { steps = a.0; few = a.1; outcome = a.2; events = a.3 }
     where
       at : (x : Next) → Leads w s t (slice_get rs 0) x
-          → ((s' : State) (t' : FlatState) → Related w s' t' → (rs : List Reply) → FitsStack w (asm_run w.program n s' rs) → Follows w n (asm_run w.program n s' rs) (λ m. image m t' rs))
+          → ((s' : State) (t' : FlatState) → Related w s' t' → (rs : List Reply) → FitsStack w (asm_run w.program n s' rs)
+          → Follows w n (asm_run w.program n s' rs) (λ m. image m t' rs))
           → FitsStack w (asm_after w.program (asm_run w.program n) s rs x)
-          → (m : ℕ) × (m ≤ 5 * suc n) × ((image m t rs).outcome ≡ seen (asm_after w.program (asm_run w.program n) s rs x).outcome) × Both (Shows w) (asm_after w.program (asm_run w.program n) s rs x).events (image m t rs).events
+          → (m : ℕ) × (m ≤ 5 * suc n) × ((image m t rs).outcome ≡ seen (asm_after w.program (asm_run w.program n) s rs x).outcome)
+          × Both (Shows w) (asm_after w.program (asm_run w.program n) s rs x).events (image m t rs).events
       at (Went s') l go fits =
           let d = run_deeper n s' rs in
           let q = l (omega arith) in
           let f = go s' q.2.0 q.2.2 rs (omega arith) in
           let e = run_on q.0 f.steps t q.2.0 rs q.2.1 in
           let k = q.1 in
-          let m = f.few in
-          (q.0 + f.steps, omega arith, ap (λ z. z.outcome) e ∙ f.outcome, subst (λ z. Both (Shows w) (asm_run w.program n s' rs).events z) (ap (λ z. z.events) (sym e)) f.events)
+          let m = f.few in (
+            q.0 + f.steps,
+            omega arith,
+            ap (λ z. z.outcome) e ∙ f.outcome,
+            subst (λ z. Both (Shows w) (asm_run w.program n s' rs).events z) (ap (λ z. z.events) (sym e)) f.events,
+          )
       at (Called c s') l go fits =
           let f = go s' l.1 l.4 (drop 1 rs) (omega arith) in
           let e = ap (flat_after (λ t rs. image f.steps t rs) rs) l.2 in
@@ -63,7 +70,8 @@ module _ (w : World) (ok : Fits w) where
             suc f.steps,
             omega arith,
             ap (λ z. z.outcome) e ∙ f.outcome,
-            subst (λ z. Both (Shows w) (record { call = c; before = s } ∷ (asm_run w.program n s' (drop 1 rs)).events) z) (ap (λ z. z.events) (sym e)) (l.3, f.events),
+            subst (λ z. Both (Shows w) (record { call = c; before = s } ∷ (asm_run w.program n s' (drop 1 rs)).events) z)
+                (ap (λ z. z.events) (sym e)) (l.3, f.events),
           )
       at (Ended y) l go fits =
           let e = ap (flat_after (λ t rs. image 0 t rs) rs) l in

@@ -60,7 +60,12 @@ step_law w ok s t p r = at s.place refl
     code f i e (Some x) h =
         let m : Means w s.live s.next (Code f i) t.pc = subst (λ v. Means w s.live s.next v t.pc) e r.place.means in
         let is : slice_get (code_of w.program f) i ≡ Some x = sym (instruction_is w.program f i) ∙ h in
-        goes_leads w s t p _ (act_law w ok x s t r f i (record { known = m.named.0; here = m.shows; is = is; facts = ok.instructions f i x m.named.0 is }))
+        goes_leads w s t p _ (act_law w ok x s t r f i (record {
+          known = m.named.0;
+          here = m.shows;
+          is = is;
+          facts = ok.instructions f i x m.named.0 is;
+        }))
 
     outer : (k o : ℕ) → s.place ≡ Ext k o → (sig : Option Sig) → sig_of w.program k ≡ sig → Leads w s t p (called w.program k s p sig)
     outer k o e None h = tt

@@ -3,8 +3,6 @@
 
 mod bound;
 mod running;
-#[cfg(test)]
-mod tests;
 
 pub use running::ran;
 

@@ -11,14 +11,18 @@ use layout_file::layout::Layout;
 use layout_file::read_layout;
 use std::alloc::Global;
 use std::test::Fail;
+use test_images::layouts::layout_of;
 
 // An area of each register's kind. In the second layout r13 reaches the area of r2.
 static LAYOUTS: [&str; 2] = [
-    r#"{"valex":"layout","version":1,"entry":"main","stop":"0x10000000","stack":["0x20000000","0x20010000"],"r13":"0x10038000","r2":"0x10048000","areas":[{"name":"a","range":["0x1000","0x2000"],"kind":"sda0"},{"name":"b","range":["0x10030000","0x10031000"],"kind":"sda13"},{"name":"c","range":["0x10040000","0x10041000"],"kind":"sda2"}],"foreign":[],"pins":[]}"#,
-    r#"{"valex":"layout","version":1,"entry":"main","stop":"0x10000000","stack":["0x20000000","0x20010000"],"r13":"0x10040000","r2":"0x10048000","areas":[{"name":"c","range":["0x10040000","0x10041000"],"kind":"sda2"}],"foreign":[],"pins":[]}"#,
+    "area sda0 1000 2000
+area sda13 10030000 10031000
+area sda2 10040000 10041000",
+    "bases 10040000 10048000
+area sda2 10040000 10041000",
 ];
 
-/// The texts, which proofs need not see.
+/// The lines, which proofs need not see.
 fn layouts() -> &'static [&'static str] {
     &LAYOUTS
 }
@@ -117,8 +121,9 @@ fn cases() -> &'static [Case] {
     &CASES
 }
 
-fn layout_of(alloc: Global, number: usize) -> Result<Layout, Fail> {
-    let text = layouts().get(number).ok_or("a layout's text")?;
+fn layout(alloc: Global, number: usize) -> Result<Layout, Fail> {
+    let lines = layouts().get(number).ok_or("a layout's lines")?;
+    let text = layout_of(alloc, *lines).ok_or("a layout's text")?;
     Ok(read_layout(alloc, text.as_bytes()).ok().ok_or("a layout")?)
 }
 
@@ -134,7 +139,7 @@ fn judged(plain: &Plain, word: u32, target: u32, layout: &Layout) -> Option<Resu
 fn small_data_and_its_differences(rt: HostRuntime) -> Result<(), Fail> {
     let alloc = rt.alloc();
     for (number, form, word, target, wrong) in cases() {
-        let layout = layout_of(alloc, *number)?;
+        let layout = layout(alloc, *number)?;
         let plain = instruction(alloc, *form)?;
         let want = match *wrong {
             Some((rule, item, wanted, found)) => Err(SdaDiff {

@@ -16,7 +16,8 @@ use Rattle.judge_model.specs.Refused.{Refused, told}
 use Rattle.judge_model.specs.Judge.{or_refused, layout_in, image_in, units_in, link_refused, linked, inputs_of, IsAccount}
 use Rattle.simulation.specs.declared.judge.JudgeError.{JudgeError}
 use Rattle.simulation.specs.declared.judge.JudgeError.TheVariants.{Refused as Refusing, No, Memory}
-use Rattle.simulation.specs.Judged.{Tells, IsRefusedBy, Refuses, IsJudgedBy, IsJudgedOf, IsAccountOf, IsFaithful, IsFaithfulOf, after_reading}
+use Rattle.simulation.specs.Judged.{Tells, IsRefusedBy, Refuses, IsJudgedBy, IsJudgedOf, IsAccountOf, IsFaithful, IsFaithfulOf}
+use Rattle.simulation.specs.Judged.{after_reading}
 
 -- ---- linking
 
@@ -127,8 +128,10 @@ module _ (layout image : List ℕ) (files : List (List ℕ)) where
   all_faithful l v us (Err j) e d u h = tt
 
 -- what holds of inputs that were read, where the units link
-pub faithful_of : (v : Image) (l : Layout) (us : List syntax.Unit) (entry : List ℕ) (p : Program) → entry ≡ l.entry → linked us entry ≡ Ok tt
-    → p ≡ record { units = us; entry = entry } → Faithful (record { image = v; layout = l; program = p }) → IsFaithfulOf (after_reading v l us)
+pub faithful_of : (v : Image) (l : Layout) (us : List syntax.Unit) (entry : List ℕ) (p : Program) → entry ≡ l.entry
+    → linked us entry ≡ Ok tt
+    → p ≡ record { units = us; entry = entry } → Faithful (record { image = v; layout = l; program = p })
+    → IsFaithfulOf (after_reading v l us)
 faithful_of v l us entry p same link is faith =
     let q : p ≡ record { units = us; entry = l.entry } = is ∙ ap (λ e. record { units = us; entry = e }) same in
     let ok : linked us l.entry ≡ Ok tt = ap (linked us) (sym same) ∙ link in (

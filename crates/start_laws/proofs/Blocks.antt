@@ -1,5 +1,6 @@
 -- The blocks of the variables at first.
-use Rattle.std.proofs.Common.{◌≡◌, ℕ, zero, suc, ◌+◌, ◌<◌, ◌≤◌, Bool, true, false, List, [], ◌∷◌, ◌++◌, length, map, Option, Some, None, refl, sym, ap, ◌∙◌, subst, arith, if◌then◌else◌}
+use Rattle.std.proofs.Common.{◌≡◌, ℕ, zero, suc, ◌+◌, ◌<◌, ◌≤◌, Bool, true, false, List, [], ◌∷◌, ◌++◌, length, map, Option, Some, None}
+use Rattle.std.proofs.Common.{refl, sym, ap, ◌∙◌, subst, arith, if◌then◌else◌}
 use Rattle.std.specs.Prelude.{slice_get, slice_index_or, filter, flat_map, option_map}
 use Rattle.std.specs.List.{enumerate_from}
 use Rattle.asm_syntax.specs.declared.unit.Unit.{Unit}
@@ -56,21 +57,25 @@ declared units v x k d h =
 -- ---- the blocks by number
 
 pub blocks_down : (units : List Unit) → variable_blocks units (variable_keys units)
-    ≡ down (λ v. slice_index_or (map (variable_block units) (enumerate_from 0 (variable_keys units))) v (new_block 0 0 false)) (length (variables units))
+    ≡ down (λ v. slice_index_or (map (variable_block units) (enumerate_from 0 (variable_keys units))) v (new_block 0 0 false))
+    (length (variables units))
 unfolding variable_blocks
 blocks_down units =
     reverse_down (map (variable_block units) (enumerate_from 0 (variable_keys units))) (new_block 0 0 false)
     ∙ ap (down (λ v. slice_index_or (map (variable_block units) (enumerate_from 0 (variable_keys units))) v (new_block 0 0 false)))
-    (map_long (variable_block units) (enumerate_from 0 (variable_keys units)) ∙ numbered_long 0 (variable_keys units) ∙ sym (variables_counted units))
+    (map_long (variable_block units) (enumerate_from 0 (variable_keys units)) ∙ numbered_long 0 (variable_keys units)
+    ∙ sym (variables_counted units))
 
 -- block v is that of the variable v
 pub block_is : (units : List Unit) (v : ℕ) (x : Variable) (k : VariableIs units v x) → v < length (variables units)
-    → slice_index_or (map (variable_block units) (enumerate_from 0 (variable_keys units))) v (new_block 0 0 false) ≡ item_block units v k.unit (OfVariable x)
+    → slice_index_or (map (variable_block units) (enumerate_from 0 (variable_keys units))) v (new_block 0 0 false)
+    ≡ item_block units v k.unit (OfVariable x)
 block_is units v x k h =
     let c = variables_counted units in
     let d = get_some (variable_keys units) v (omega arith) in
     let z : 0 + v ≡ v = omega arith in
-    get_or_is (map (variable_block units) (enumerate_from 0 (variable_keys units))) v (item_block units v k.unit (OfVariable x)) (new_block 0 0 false) (
+    get_or_is (map (variable_block units) (enumerate_from 0 (variable_keys units))) v (item_block units v k.unit (OfVariable x))
+    (new_block 0 0 false) (
     map_get (variable_block units) (enumerate_from 0 (variable_keys units)) v
     ∙ ap (option_map (variable_block units)) (numbered_get 0 (variable_keys units) v d.0 d.1)
     ∙ ap (λ n. Some (variable_block units (n, d.0))) z

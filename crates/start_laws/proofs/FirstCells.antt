@@ -1,5 +1,6 @@
 -- The first cells of a variable stand for the bytes that its data asks for, and the root's word changes no other byte.
-use Rattle.std.proofs.Common.{◌≡◌, ℕ, zero, suc, ◌+◌, ◌-◌, ◌/◌, ◌%◌, ◌<◌, ◌≤◌, Bool, true, false, List, [], ◌∷◌, ◌++◌, map, replicate, length, Option, Some, None, refl, sym, ap, ◌∙◌, subst, arith, if◌then◌else◌, length-append}
+use Rattle.std.proofs.Common.{◌≡◌, ℕ, zero, suc, ◌+◌, ◌-◌, ◌/◌, ◌%◌, ◌<◌, ◌≤◌, Bool, true, false, List, [], ◌∷◌, ◌++◌, map, replicate}
+use Rattle.std.proofs.Common.{length, Option, Some, None, refl, sym, ap, ◌∙◌, subst, arith, if◌then◌else◌, length-append}
 use Rattle.std.specs.Prelude.{◌==◌, ℤ, flat_map, sum_by, unwrap_or, slice_get, slice_index_or}
 use Rattle.std.specs.Option.{option_map_or}
 use Rattle.std.proofs.lemmas.List.{length-replicate, length-map}
@@ -80,7 +81,8 @@ both_long R (x ∷ xs) [] h = absurd h
 
 -- ---- cells and bytes
 
-module _ (g : Inputs) (bs stack : List ℕ) (ok : Fits (world_of g bs stack)) (live : List Live) (next : ℕ) (laid : Laid (world_of g bs stack) live next) where
+module _ (g : Inputs) (bs stack : List ℕ) (ok : Fits (world_of g bs stack)) (live : List Live) (next : ℕ)
+    (laid : Laid (world_of g bs stack) live next) where
   abbrev V : World
   V = world_of g bs stack
 
@@ -115,8 +117,10 @@ module _ (g : Inputs) (bs stack : List ℕ) (ok : Fits (world_of g bs stack)) (l
       let b = resolve_below g.program.units u name q.0 q.1 in
       let again : x ≡ wrapped (x + 0) = omega arith in
       let m = symbol_law V ok live next laid q.0 offset 0 x (omega arith) again in
-      subst (λ k. Both (CellMeans V live next) (address_cells o (symbol_value (key_kinds g.program.units) k offset 0)) (word_bytes (address_plus (symbol_address g bs u name) offset))) (sym key)
-      (subst (λ a. Both (CellMeans V live next) (address_cells o (symbol_value (key_kinds g.program.units) q.0 offset 0)) (word_bytes (address_plus a offset))) (sym at)
+      subst (λ k. Both (CellMeans V live next) (address_cells o (symbol_value (key_kinds g.program.units) k offset 0))
+      (word_bytes (address_plus (symbol_address g bs u name) offset))) (sym key)
+      (subst (λ a. Both (CellMeans V live next) (address_cells o (symbol_value (key_kinds g.program.units) q.0 offset 0))
+      (word_bytes (address_plus a offset))) (sym at)
       (address_law o (symbol_value (key_kinds g.program.units) q.0 offset 0) x m))
 
   -- all items, from an offset on
@@ -124,7 +128,8 @@ module _ (g : Inputs) (bs stack : List ℕ) (ok : Fits (world_of g bs stack)) (l
       → Both (CellMeans V live next) (cells_from (named_value g.program.units u) o xs) (flat_map (init_bytes (symbol_address g bs u)) xs)
   data_law u o [] h = tt
   data_law u o (x ∷ xs) h =
-      both_append (CellMeans V live next) (init_cells (named_value g.program.units u) o x) (cells_from (named_value g.program.units u) (o + init_size x) xs)
+      both_append (CellMeans V live next) (init_cells (named_value g.program.units u) o x)
+      (cells_from (named_value g.program.units u) (o + init_size x) xs)
       (init_bytes (symbol_address g bs u) x) (flat_map (init_bytes (symbol_address g bs u)) xs)
       (init_law u o x (h 0 x refl)) (data_law u (o + init_size x) xs (λ i y e. h (suc i) y e))
 
@@ -137,7 +142,8 @@ set_same w next [] mem a l h s = s
 set_same w next (x ∷ xs) mem a l h s =
     let z : a + 0 ≡ a = omega arith in
     let e : wrapped (a + 1) ≡ a + 1 = omega arith in
-    let r = set_same w next xs (set_byte mem a x) (a + 1) (omega arith) (λ i k. let q : a + suc i ≡ a + 1 + i = omega arith in subst (Data w) q (h (suc i) (omega arith)))
+    let r = set_same w next xs (set_byte mem a x) (a + 1) (omega arith) (λ i k. let q : a + suc i ≡ a + 1 + i = omega arith in
+    subst (Data w) q (h (suc i) (omega arith)))
     (same_set w next mem a x (subst (Data w) z (h 0 (omega arith))) s) in
     subst (λ b. Same w (set_bytes (set_byte mem a x) b xs)) (sym e) r
 

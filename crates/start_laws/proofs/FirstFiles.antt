@@ -1,5 +1,6 @@
 -- The registers at first: none of the assembly's holds a value but r1 and LR.
-use Rattle.std.proofs.Common.{◌≡◌, ℕ, zero, suc, ◌+◌, ◌-◌, ◌<◌, ◌≤◌, List, [], ◌∷◌, length, replicate, Option, Some, None, option_map, refl, sym, ap, ◌∙◌, subst, arith, length-set, get_or-set_other, get_or-set_same}
+use Rattle.std.proofs.Common.{◌≡◌, ℕ, zero, suc, ◌+◌, ◌-◌, ◌<◌, ◌≤◌, List, [], ◌∷◌, length, replicate, Option, Some, None, option_map}
+use Rattle.std.proofs.Common.{refl, sym, ap, ◌∙◌, subst, arith, length-set, get_or-set_other, get_or-set_same}
 use Rattle.std.specs.Prelude.{slice_set}
 use Rattle.isa_model.specs.Word.{wrapped}
 use Rattle.layout_model.specs.Layouts.{Layout}
@@ -50,14 +51,18 @@ module _ (w : World) (live : List Live) (next : ℕ) where
       let p = bits_put b junk.cr 0 32 in
       let none : (x : ℕ) → Means w live next Undef x = λ x. record { named = tt; shows = tt } in
       let q : a ≡ wrapped (a + 0) = omega arith in
-      let m : Means w live next (Ptr (variables_in w) 0) a = record { named = known; shows = subst (λ h. Shows (option_map (λ z. wrapped (z + 0)) h) a) (sym here) q } in
+      let m : Means w live next (Ptr (variables_in w) 0) a =
+      record { named = known; shows = subst (λ h. Shows (option_map (λ z. wrapped (z + 0)) h) a) (sym here) q } in
       let g1 = both_set (Means w live next) (replicate 32 Undef) junk.regs (Ptr (variables_in w) 0) a m (none_mean junk.regs 32 wide) 1 in
-      let g2 = both_set (Means w live next) (slice_set (replicate 32 Undef) 1 (Ptr (variables_in w) 0)) (slice_set junk.regs 1 (root_of w.layout)) Undef w.layout.r2 (none w.layout.r2) g1 2 in
-      let g3 = both_set (Means w live next) (slice_set (slice_set (replicate 32 Undef) 1 (Ptr (variables_in w) 0)) 2 Undef) (slice_set (slice_set junk.regs 1 (root_of w.layout)) 2 w.layout.r2) Undef w.layout.r13 (none w.layout.r13) g2 13 in
+      let g2 = both_set (Means w live next) (slice_set (replicate 32 Undef) 1 (Ptr (variables_in w) 0))
+      (slice_set junk.regs 1 (root_of w.layout)) Undef w.layout.r2 (none w.layout.r2) g1 2 in
+      let g3 = both_set (Means w live next) (slice_set (slice_set (replicate 32 Undef) 1 (Ptr (variables_in w) 0)) 2 Undef)
+      (slice_set (slice_set junk.regs 1 (root_of w.layout)) 2 w.layout.r2) Undef w.layout.r13 (none w.layout.r13) g2 13 in
       let l1 = length-set junk.regs 1 a in
       let l2 = length-set (slice_set junk.regs 1 a) 2 w.layout.r2 in
       let l3 = length-set (slice_set (slice_set junk.regs 1 a) 2 w.layout.r2) 13 w.layout.r13 in
-      let r2 = get_or-set_other (slice_set (slice_set junk.regs 1 a) 2 w.layout.r2) 13 2 w.layout.r13 0 (λ e. omega arith) ∙ get_or-set_same (slice_set junk.regs 1 a) 2 w.layout.r2 0 (omega arith) in
+      let r2 = get_or-set_other (slice_set (slice_set junk.regs 1 a) 2 w.layout.r2) 13 2 w.layout.r13 0 (λ e. omega arith)
+      ∙ get_or-set_same (slice_set junk.regs 1 a) 2 w.layout.r2 0 (omega arith) in
       let r13 = get_or-set_same (slice_set (slice_set junk.regs 1 a) 2 w.layout.r2) 13 w.layout.r13 0 (omega arith) in
       let bits = p.bits in
       record {
@@ -69,5 +74,9 @@ module _ (w : World) (live : List Live) (next : ℕ) where
         ctr = none _;
         ca = none _;
         so = none _;
-        bases = (ap (λ l. get 0 (record b { gprs = l }) (Gpr 2)) p.gprs ∙ r2, ap (λ l. get 0 (record b { gprs = l }) (Gpr 13)) p.gprs ∙ r13);
+        bases = (
+          ap (λ l. get 0 (record b { gprs = l }) (Gpr 2)) p.gprs ∙ r2,
+          ap (λ l. get 0 (record b { gprs = l }) (Gpr 13)) p.gprs
+              ∙ r13,
+        );
       }

@@ -1,5 +1,7 @@
 -- Where the blocks lie at first: the variables at the addresses of their keys, and the root at the end of the stack.
-use Rattle.std.proofs.Common.{◌≡◌, ℕ, zero, suc, ◌+◌, ◌-◌, ◌<◌, ◌≤◌, ◌⊎◌, inl, inr, Bool, true, false, ◌&&◌, nat_lt, nat_le, List, [], ◌∷◌, length, replicate, Option, Some, None, refl, sym, ap, ap₂, ◌∙◌, subst, arith, ⊎_elim, if◌then◌else◌, length-append}
+use Rattle.std.proofs.Common.{◌≡◌, ℕ, zero, suc, ◌+◌, ◌-◌, ◌<◌, ◌≤◌, ◌⊎◌, inl, inr, Bool, true, false, ◌&&◌, nat_lt, nat_le, List, [], ◌∷◌}
+use Rattle.std.proofs.Common.{length, replicate, Option, Some, None, refl, sym, ap, ap₂, ◌∙◌, subst, arith, ⊎_elim, if◌then◌else◌}
+use Rattle.std.proofs.Common.{length-append}
 use Rattle.std.specs.Prelude.{◌==◌, find, slice_get, is_some, map}
 use Rattle.std.proofs.lemmas.Bool.{eq-eqb, ne_eqb, lt-ltb, le-ltb, cases_eq, cases_lt}
 use Rattle.std.proofs.lemmas.List.{length-replicate}
@@ -46,13 +48,15 @@ module _ (w : World) (ok : Fits w) (f : ℕ → Live) (blocks : (v : ℕ) → v 
   no_frames (suc m) h =
       let n = (blocks m (omega arith)).number in
       frames_step (variables_in w) (f m) (down f m)
-      ∙ ap (λ t. if t then length (f m).cells + frame_cells (variables_in w) (down f m) else frame_cells (variables_in w) (down f m)) (le-ltb (variables_in w) (f m).number (omega arith))
+      ∙ ap (λ t. if t then length (f m).cells + frame_cells (variables_in w) (down f m) else frame_cells (variables_in w) (down f m))
+      (le-ltb (variables_in w) (f m).number (omega arith))
       ∙ no_frames m (omega arith)
 
   base_is : (m : ℕ) → m < variables_in w → base w (f m ∷ down f m) ≡ w.variable_at m
   base_is m h =
       let n = (blocks m h).number in
-      ap (λ t. if t then w.variable_at (f m).number else w.layout.stack.hi - depth w (f m ∷ down f m)) (lt-ltb (f m).number (variables_in w) (omega arith))
+      ap (λ t. if t then w.variable_at (f m).number else w.layout.stack.hi - depth w (f m ∷ down f m))
+      (lt-ltb (f m).number (variables_in w) (omega arith))
       ∙ ap w.variable_at n
 
   found : (m b : ℕ) → m ≤ variables_in w → b < m → LiveAt w (down f m) b (w.variable_at b) (f b)
@@ -112,7 +116,10 @@ module _ (w : World) (ok : Fits w) (f : ℕ → Live) (blocks : (v : ℕ) → v 
   off_stack b a o k h e q l = (blocks b h).off_stack (a + o) (in_variable b a o k h e q l)
 
   above : (m : ℕ) → m ≤ variables_in w → Above w (down f m)
-  above m h = record { at = λ b a o k l s. (let r = first m b a k h l in let n = r.number in inr (off_stack b a o k (omega arith) r.at r.block s)) }
+  above m h = record {
+    at = λ b a o k l s. (let r = first m b a k h l in let n = r.number in
+        inr (off_stack b a o k (omega arith) r.at r.block s));
+  }
 
   under : (m : ℕ) → m ≤ variables_in w → Under m (down f m)
   under zero h = tt
@@ -121,8 +128,12 @@ module _ (w : World) (ok : Fits w) (f : ℕ → Live) (blocks : (v : ℕ) → v 
   ordered : (m : ℕ) → m ≤ variables_in w → Ordered w (down f m)
   ordered zero h = tt
   ordered (suc m) h =
-      let n = (blocks m (omega arith)).number in
-      (missing m (f m).number (omega arith) (omega arith), subst (λ z. Under z (down f m)) (sym n) (under m (omega arith)), above m (omega arith), ordered m (omega arith))
+      let n = (blocks m (omega arith)).number in (
+        missing m (f m).number (omega arith) (omega arith),
+        subst (λ z. Under z (down f m)) (sym n) (under m (omega arith)),
+        above m (omega arith),
+        ordered m (omega arith),
+      )
 
   -- ---- the root on them
 
@@ -133,13 +144,15 @@ module _ (w : World) (ok : Fits w) (f : ℕ → Live) (blocks : (v : ℕ) → v 
   root_depth =
       ap (λ n. n + 16) (
       frames_step (variables_in w) (root (variables_in w)) (down f (variables_in w))
-      ∙ ap (λ t. if t then 16 + frame_cells (variables_in w) (down f (variables_in w)) else frame_cells (variables_in w) (down f (variables_in w))) (le-ltb (variables_in w) (variables_in w) (omega arith))
+      ∙ ap (λ t. if t then 16 + frame_cells (variables_in w) (down f (variables_in w)) else frame_cells (variables_in w)
+      (down f (variables_in w))) (le-ltb (variables_in w) (variables_in w) (omega arith))
       ∙ no_frames (variables_in w) (omega arith)
       )
 
   root_base : base w start ≡ w.layout.stack.hi - 16
   root_base =
-      ap (λ t. if t then w.variable_at (variables_in w) else w.layout.stack.hi - depth w start) (le-ltb (variables_in w) (variables_in w) (omega arith))
+      ap (λ t. if t then w.variable_at (variables_in w) else w.layout.stack.hi - depth w start)
+      (le-ltb (variables_in w) (variables_in w) (omega arith))
       ∙ ap (λ n. w.layout.stack.hi - n) root_depth
 
   pub root_home : home w start (variables_in w) ≡ Some (w.layout.stack.hi - 16)
@@ -156,7 +169,8 @@ module _ (w : World) (ok : Fits w) (f : ℕ → Live) (blocks : (v : ℕ) → v 
       here e =
           let n = newest w (root (variables_in w)) (down f (variables_in w)) in
           let h1 : home w start b ≡ Some (base w start) = subst (λ z. home w start z ≡ Some (base w start)) e n.home_is in
-          let b1 : find (has b) start ≡ Some (root (variables_in w)) = subst (λ z. find (has z) start ≡ Some (root (variables_in w))) e n.block in
+          let b1 : find (has b) start ≡ Some (root (variables_in w)) =
+          subst (λ z. find (has z) start ≡ Some (root (variables_in w))) e n.block in
           let h2 = l.home_is in let b2 = l.block in
           let p : a ≡ base w start = cc in
           let q : k ≡ root (variables_in w) = cc in
@@ -229,7 +243,12 @@ module _ (w : World) (ok : Fits w) (f : ℕ → Live) (blocks : (v : ℕ) → v 
     given = omega arith;
     young = λ b h. not_newest w (root (variables_in w)) (down f (variables_in w)) b (λ e. omega arith)
         ∙ missing (variables_in w) b (omega arith) (omega arith);
-    ordered = (missing (variables_in w) (variables_in w) (omega arith) (omega arith), under (variables_in w) (omega arith), above (variables_in w) (omega arith), ordered (variables_in w) (omega arith));
+    ordered = (
+      missing (variables_in w) (variables_in w) (omega arith) (omega arith),
+      under (variables_in w) (omega arith),
+      above (variables_in w) (omega arith),
+      ordered (variables_in w) (omega arith),
+    );
     variables_live = λ v h. not_newest w (root (variables_in w)) (down f (variables_in w)) v (λ e. omega arith)
         ∙ (found (variables_in w) v (omega arith) h).home_is;
     apart = λ b c a d o p k l h1 h2. apart b c a d o p k l (look b a k h1) (look c d l h2);

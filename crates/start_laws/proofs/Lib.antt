@@ -4,3 +4,5 @@ pub mod FirstLaid
 pub mod FirstCells
 pub mod FirstFiles
 pub mod Starts
+pub mod StartRows
+mod RelatedRows

@@ -1,5 +1,6 @@
 -- The first states are related, and so runs from them are.
-use Rattle.std.proofs.Common.{◌≡◌, ℕ, zero, suc, ◌+◌, ◌-◌, ◌<◌, ◌≤◌, Bool, true, false, ◌&&◌, nat_lt, nat_le, List, [], ◌∷◌, ◌++◌, length, map, replicate, Option, Some, None, refl, sym, ap, ap₂, ◌∙◌, subst, arith, if◌then◌else◌, length-append}
+use Rattle.std.proofs.Common.{◌≡◌, ℕ, zero, suc, ◌+◌, ◌-◌, ◌<◌, ◌≤◌, Bool, true, false, ◌&&◌, nat_lt, nat_le, List, [], ◌∷◌, ◌++◌, length}
+use Rattle.std.proofs.Common.{map, replicate, Option, Some, None, refl, sym, ap, ap₂, ◌∙◌, subst, arith, if◌then◌else◌, length-append}
 use Rattle.std.specs.Prelude.{◌==◌, pos, flat_map, slice_get, slice_index_or, unwrap_or, is_some}
 use Rattle.std.specs.List.{enumerate_from}
 use Rattle.std.specs.Option.{option_map_or}
@@ -70,7 +71,8 @@ all_full : (ss : List Segment) → EachOf HasRange ss → EachOf IsFull (map kep
 all_full [] h = tt
 all_full (s ∷ ss) h = (sized_kept s h.0.held, all_full ss h.1)
 
-module _ (g : Inputs) (bs : List ℕ) (known : IsKnown g bs) (stack : List ℕ) (long : length stack + g.layout.stack.lo ≡ g.layout.stack.hi) where
+module _ (g : Inputs) (bs : List ℕ) (known : IsKnown g bs) (stack : List ℕ)
+    (long : length stack + g.layout.stack.lo ≡ g.layout.stack.hi) where
   abbrev W : World
   W = world_of g bs stack
 
@@ -97,7 +99,8 @@ module _ (g : Inputs) (bs : List ℕ) (known : IsKnown g bs) (stack : List ℕ) 
   off v o h l =
       let k = one v h in
       let at = k.at in let size = k.size in
-      (var_facts v h).off_stack (W.variable_at v + o) (holds_of (W.variable_at v + o) (key_address bs k.of.key) (key_address bs k.of.key + variable_size k.variable.init) (omega arith) (omega arith))
+      (var_facts v h).off_stack (W.variable_at v + o) (holds_of (W.variable_at v + o) (key_address bs k.of.key)
+      (key_address bs k.of.key + variable_size k.variable.init) (omega arith) (omega arith))
 
   made_block : (v : ℕ) (h : v < W.program.variables) → IsBlock W v (made v h)
   made_block v h =
@@ -139,7 +142,8 @@ module _ (g : Inputs) (bs : List ℕ) (known : IsKnown g bs) (stack : List ℕ) 
   differ v u a i j =
       let k = one v i.is in let l = one u j.is in
       let same = known.facts.variables_apart k.of.key l.of.key a
-      (in_variable g bs stack known.layout known.linked known.facts long v a i) (in_variable g bs stack known.layout known.linked known.facts long u a j) in
+      (in_variable g bs stack known.layout known.linked known.facts long v a i)
+      (in_variable g bs stack known.layout known.linked known.facts long u a j) in
       variable_once g.program.units v u l.of.key (k.of.number ∙ ap Some same) l.of.number
 
   abbrev live : List Live
@@ -177,7 +181,10 @@ module _ (g : Inputs) (bs : List ℕ) (known : IsKnown g bs) (stack : List ℕ) 
 
   blank_root : (o : ℕ) → cell (root W.program.variables) o ≡ Nothing
   blank_root o =
-      blank_at (replicate 16 Nothing) (refl, (refl, (refl, (refl, (refl, (refl, (refl, (refl, (refl, (refl, (refl, (refl, (refl, (refl, (refl, (refl, tt)))))))))))))))) o
+      blank_at (replicate 16 Nothing) (
+        refl,
+        (refl, (refl, (refl, (refl, (refl, (refl, (refl, (refl, (refl, (refl, (refl, (refl, (refl, (refl, (refl, tt))))))))))))))),
+      ) o
 
   made_cells : (v o : ℕ) (h : v < W.program.variables) → o < length (made v h).cells
       → CellMeans W live (suc W.program.variables) (cell (made v h) o) (byte_of mem (W.variable_at v + o))
@@ -186,15 +193,18 @@ module _ (g : Inputs) (bs : List ℕ) (known : IsKnown g bs) (stack : List ℕ) 
       let f = var_facts v h in
       let b = made_block v h in
       let bytes = flat_map (init_bytes (symbol_address g bs k.of.unit)) k.variable.init in
-      let both = data_law g bs stack fits live (suc W.program.variables) laid k.of.unit 0 k.variable.init (λ i x e r q. known.linked.names.variables k.of.key k.of.unit k.variable i x r k.of.is e q) in
+      let both = data_law g bs stack fits live (suc W.program.variables) laid k.of.unit 0 k.variable.init
+      (λ i x e r q. known.linked.names.variables k.of.key k.of.unit k.variable i x r k.of.is e q) in
       let long_data = both_long (CellMeans W live (suc W.program.variables)) (made v h).cells bytes both in
       let at = k.at in
       let size = b.size in
       let d = get_some bytes o (omega arith) in
       let loaded = f.bytes o d.0 d.1 in
       let here : byte_at g.image (W.variable_at v + o) ≡ Some d.0 = subst (λ z. byte_at g.image (z + o) ≡ Some d.0) (sym at) loaded in
-      let out : InStack W (W.variable_at v + o) → ⊥ = b.off_stack (W.variable_at v + o) (record { is = h; from = omega arith; below = omega arith }) in
-      let byte : byte_of mem (W.variable_at v + o) ≡ d.0 = byte_stays (W.variable_at v + o) out ∙ byte_off g.image g.layout.stack stack long (W.variable_at v + o) d.0 (off v o h (omega arith)) here in
+      let out : InStack W (W.variable_at v + o) → ⊥ =
+      b.off_stack (W.variable_at v + o) (record { is = h; from = omega arith; below = omega arith }) in
+      let byte : byte_of mem (W.variable_at v + o) ≡ d.0 = byte_stays (W.variable_at v + o) out
+      ∙ byte_off g.image g.layout.stack stack long (W.variable_at v + o) d.0 (off v o h (omega arith)) here in
       let c = both_get (CellMeans W live (suc W.program.variables)) (made v h).cells bytes Nothing 0 tt both o in
       subst (λ x. CellMeans W live (suc W.program.variables) (cell (made v h) o) x) (get_or_is bytes o d.0 0 d.1 ∙ sym byte) c
 
@@ -232,9 +242,12 @@ module _ (g : Inputs) (bs : List ℕ) (known : IsKnown g bs) (stack : List ℕ) 
       let r1 : key_address bs entry ≤ 0xfffffff0 = r.1 in
       symbol_law W fits live (suc W.program.variables) laid entry (pos 0) 0 (key_address bs entry) k (omega arith)
 
-  place : PlacesAgree W live (suc W.program.variables) (symbol_value (key_kinds g.program.units) (unwrap_or (entry_key g.program.units g.program.entry) 0) (pos 0) 0) (key_address bs (unwrap_or (entry_key g.program.units g.program.entry) 0))
+  place : PlacesAgree W live (suc W.program.variables) (symbol_value (key_kinds g.program.units)
+      (unwrap_or (entry_key g.program.units g.program.entry) 0) (pos 0) 0)
+      (key_address bs (unwrap_or (entry_key g.program.units g.program.entry) 0))
   place =
-      subst (λ e. PlacesAgree W live (suc W.program.variables) (symbol_value (key_kinds g.program.units) e (pos 0) 0) (key_address bs e)) (sym entry_is)
+      subst (λ e. PlacesAgree W live (suc W.program.variables) (symbol_value (key_kinds g.program.units) e (pos 0) 0) (key_address bs e))
+      (sym entry_is)
       (record { target = entry_target; means = entry_means })
 
   -- ---- the whole
@@ -243,7 +256,8 @@ module _ (g : Inputs) (bs : List ℕ) (known : IsKnown g bs) (stack : List ℕ) 
   related junk wide =
       let b = blocks_down g.program.units in
       let files = first_files W live (suc W.program.variables) junk wide (omega arith) (root_home W fits block blocks differ) top_range in
-      let l : root W.program.variables ∷ variable_blocks g.program.units (variable_keys g.program.units) ≡ live = ap (λ l. root W.program.variables ∷ l) b in
+      let l : root W.program.variables ∷ variable_blocks g.program.units (variable_keys g.program.units) ≡ live =
+      ap (λ l. root W.program.variables ∷ l) b in
       related_by (root W.program.variables ∷ variable_blocks g.program.units (variable_keys g.program.units)) (sym l) files
     where
       related_by : (l : List Live) → live ≡ l

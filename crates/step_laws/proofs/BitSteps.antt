@@ -1,5 +1,7 @@
 -- The step law of a bit of the condition register put into a register: mfcr and a rotation.
-use Rattle.std.proofs.Common.{◌≡◌, ℕ, zero, suc, ◌+◌, ◌-◌, ◌*◌, ◌/◌, ◌%◌, ◌^◌, ◌<◌, ◌≤◌, Bool, true, false, ◌&&◌, List, [], ◌∷◌, length, map, Option, Some, None, refl, sym, ap, ◌∙◌, subst, arith, ⊎_elim, pow-suc, mul_comm, bit_and, get_or-set_same, length-set}
+use Rattle.std.proofs.Common.{◌≡◌, ℕ, zero, suc, ◌+◌, ◌-◌, ◌*◌, ◌/◌, ◌%◌, ◌^◌, ◌<◌, ◌≤◌, Bool, true, false, ◌&&◌, List, [], ◌∷◌, length}
+use Rattle.std.proofs.Common.{map, Option, Some, None, refl, sym, ap, ◌∙◌, subst, arith, ⊎_elim, pow-suc, mul_comm, bit_and}
+use Rattle.std.proofs.Common.{get_or-set_same, length-set}
 use Rattle.std.specs.Prelude.{fold, slice_index_or}
 use Rattle.std.specs.Int.{bit_at}
 use Rattle.std.proofs.Math.Seq.{set-set}
@@ -110,7 +112,8 @@ joined_bits (b ∷ bs) w h =
 low_of_rotl : (x m k : ℕ) → bit_and ((x * 2 ^ suc m) % 4294967296 + x / 2 ^ k) 1 ≡ bit_at x k
 low_of_rotl x m k =
     let p : x * 2 ^ suc m ≡ 2 * (x * 2 ^ m) = ap (λ z. x * z) (pow-suc 2 m) ∙ grind arith in
-    let e : bit_and ((x * 2 ^ suc m) % 4294967296 + x / 2 ^ k) (2 ^ 0) ≡ bit_at ((x * 2 ^ suc m) % 4294967296 + x / 2 ^ k) 0 * 2 ^ 0 = and_pow _ 0 in
+    let e : bit_and ((x * 2 ^ suc m) % 4294967296 + x / 2 ^ k) (2 ^ 0) ≡ bit_at ((x * 2 ^ suc m) % 4294967296 + x / 2 ^ k) 0 * 2 ^ 0 =
+    and_pow _ 0 in
     let f = bit_at_lowest ((x * 2 ^ suc m) % 4294967296 + x / 2 ^ k) in
     let g : ((x * 2 ^ suc m) % 4294967296 + x / 2 ^ k) % 2 ≡ x / 2 ^ k % 2 = omega arith in
     e ∙ omega arith
@@ -154,7 +157,8 @@ bit_found bs bit wide l =
 -- ---- the step
 
 rotate_file : (g : File ℕ) (r n : ℕ)
-    → flat_all (One (effect (simple (op.Rotation n 31 31)) (register r) (Number 0) (Gpr r))) g ≡ put g (Gpr r) (bit_and (rotl (get 0 g (Gpr r)) n) 1)
+    → flat_all (One (effect (simple (op.Rotation n 31 31)) (register r) (Number 0) (Gpr r))) g
+    ≡ put g (Gpr r) (bit_and (rotl (get 0 g (Gpr r)) n) 1)
 unfolding flat_effect results
 rotate_file g r n = refl
 
@@ -188,13 +192,16 @@ module _ (w : World) (ok : Fits w) (s : State) (t : FlatState) (r : Related w s 
       let e2 = then_is w t1 (fetch_law w t1 _ _ sp.1.0.code r.same p1) (ap (λ g. on t1 g t.mem) (rotate_file g1 d ((bit + 1) % 32))) in
       let wide = r.files.wide in
       let got : get 0 g1 (Gpr d) ≡ x1 = get_or-set_same t.file.gprs d x1 0 (omega arith) in
-      let x2_is : x2 ≡ get 0 t.file (Bit bit) % 2 = ap (λ x. bit_and (rotl x ((bit + 1) % 32)) 1) got ∙ bit_found t.file.bits bit r.files.bits_wide known in
+      let x2_is : x2 ≡ get 0 t.file (Bit bit) % 2 = ap (λ x. bit_and (rotl x ((bit + 1) % 32)) 1) got
+      ∙ bit_found t.file.bits bit r.files.bits_wide known in
       let free = free_of (Gpr d) h.facts.shaped.free in
       let v = changed (λ n. n % 2) (get Undef s.file (Bit bit)) in
-      let m = low_means w s (get Undef s.file (Bit bit)) (get 0 t.file (Bit bit)) (get_law w s.live s.next s.file t.file r.files (Bit bit)) in
+      let m = low_means w s (get Undef s.file (Bit bit)) (get 0 t.file (Bit bit))
+      (get_law w s.live s.next s.file t.file r.files (Bit bit)) in
       let f1 = put_law w s.live s.next s.file t.file r.files (Gpr d) Undef x1 free (record { named = tt; shows = tt }) in
       let f2 = put_law w s.live s.next _ _ f1 (Gpr d) v x2 free (subst (λ x. Means w s.live s.next v x) (sym x2_is) m) in
-      let once : put (put s.file (Gpr d) Undef) (Gpr d) v ≡ put s.file (Gpr d) v = ap (λ l. record s.file { gprs = l }) (set-set s.file.gprs d Undef v) in (
+      let once : put (put s.file (Gpr d) Undef) (Gpr d) v ≡ put s.file (Gpr d) v =
+      ap (λ l. record s.file { gprs = l }) (set-set s.file.gprs d Undef v) in (
         2,
         omega arith,
         (

@@ -1,5 +1,6 @@
 -- The step laws of jumps, branches, and of instructions of one or two words that are no plain ones.
-use Rattle.std.proofs.Common.{◌≡◌, ℕ, zero, suc, ◌+◌, ◌*◌, ◌%◌, ◌<◌, ◌≤◌, Bool, true, false, not, List, [], ◌∷◌, length, Option, Some, None, refl, sym, ap, ap₂, ◌∙◌, subst, arith, if◌then◌else◌}
+use Rattle.std.proofs.Common.{◌≡◌, ℕ, zero, suc, ◌+◌, ◌*◌, ◌%◌, ◌<◌, ◌≤◌, Bool, true, false, not, List, [], ◌∷◌, length, Option, Some}
+use Rattle.std.proofs.Common.{None, refl, sym, ap, ap₂, ◌∙◌, subst, arith, if◌then◌else◌}
 use Rattle.std.specs.Prelude.{ℤ, pos, ◌==◌}
 use Rattle.std.specs.Int.{cast_unsigned, w32}
 use Rattle.std.proofs.lemmas.Bool.{eqb-true}
@@ -82,7 +83,8 @@ module _ (w : World) (ok : Fits w) (s : State) (t : FlatState) (r : Related w s 
   -- a symbol as a target
   symbol_place : (key x : ℕ) → key < length w.program.kinds → x ≡ wrapped (w.address key)
       → Means w s.live s.next (symbol_value w.program.kinds key (pos 0) 0) x
-  symbol_place key x h e = let q : x ≡ wrapped (wrapped (w.address key + 0) + 0) = omega arith in symbol_law w ok s.live s.next r.laid key (pos 0) 0 x h q
+  symbol_place key x h e = let q : x ≡ wrapped (wrapped (w.address key + 0) + 0) = omega arith in
+      symbol_law w ok s.live s.next r.laid key (pos 0) 0 x h q
 
   here : ℕ
   here = place_at w f i
@@ -91,67 +93,113 @@ module _ (w : World) (ok : Fits w) (s : State) (t : FlatState) (r : Related w s 
       → place_at w f i + 4 ≤ 0xfffffff0 → Means w s.live s.next (Code f (suc i)) (following t)
   linked_files x h l b = let hh = h.here in (next_place w s.live s.next f i x 1 h.known h.is h.facts l (following t) (omega arith)).means
 
-  pub jump_step : (j : Jump) → Stands w t f i (instrs.Plain (plains.Jump j))
-      → Goes w t (act w.program f i s (key_at w.program f i) (instrs.Plain (plains.Jump j)))
-  jump_step (jumps.B label) h =
-      let sp = plain_spelt w (place_at w f i) _ (plains.Jump (jumps.B label)) _ h.facts.spelt in
-      goes_to _ (target t (displacement_in 26 (loaded_word w.image (place_at w f i)))) _ _ sp.code h.here refl (label_agrees label _ h.known (first_stands (has_label (code_of w.program f)) label [] h.facts.shaped.labels) (far_leads (place_at w f i) _ t.pc machine.B sp h.here))
-  jump_step (jumps.Bs name) h = at (is_target w.program (symbol_value w.program.kinds key (pos 0) 0)) refl
+  bs_step : (name : List ℕ) → Stands w t f i (instrs.Plain (plains.Jump (jumps.Bs name)))
+      → Goes w t (act w.program f i s (key_at w.program f i) (instrs.Plain (plains.Jump (jumps.Bs name))))
+  bs_step name h = at (is_target w.program (symbol_value w.program.kinds key (pos 0) 0)) refl
     where
       key : ℕ
       key = key_at w.program f i
 
       at : (b : Bool) → is_target w.program (symbol_value w.program.kinds (key_at w.program f i) (pos 0) 0) ≡ b
-          → Goes w t (if b then asm.Went (record s { place = symbol_value w.program.kinds (key_at w.program f i) (pos 0) 0 }) else asm.Undefined whys.Target)
+          → Goes w t (if b then asm.Went
+          (record s { place = symbol_value w.program.kinds (key_at w.program f i) (pos 0) 0 }) else asm.Undefined whys.Target)
       at false e = tt
       at true e =
-          let sp = plain_spelt w (place_at w f i) (target_in w f i (instrs.Plain (plains.Jump (jumps.Bs name)))) (plains.Jump (jumps.Bs name)) (loaded_word w.image (place_at w f i)) h.facts.spelt in
-          goes_to (symbol_value w.program.kinds (key_at w.program f i) (pos 0) 0) (target t (displacement_in 26 (loaded_word w.image (place_at w f i)))) _ _ sp.code h.here refl (record { target = e; means = symbol_place (key_at w.program f i) (target t (displacement_in 26 (loaded_word w.image (place_at w f i)))) (h.facts.names _ refl) (far_leads (place_at w f i) (w.address (key_at w.program f i)) t.pc machine.B sp h.here) })
-  jump_step (jumps.Bl name) h = at (is_target w.program (symbol_value w.program.kinds (key_at w.program f i) (pos 0) 0)) refl
+          let sp = plain_spelt w (place_at w f i) (target_in w f i (instrs.Plain (plains.Jump (jumps.Bs name))))
+          (plains.Jump (jumps.Bs name)) (loaded_word w.image (place_at w f i)) h.facts.spelt in
+          goes_to (symbol_value w.program.kinds (key_at w.program f i) (pos 0) 0)
+          (target t (displacement_in 26 (loaded_word w.image (place_at w f i)))) _ _ sp.code h.here refl
+          (record {
+            target = e;
+            means = symbol_place (key_at w.program f i)
+                (target t (displacement_in 26 (loaded_word w.image (place_at w f i)))) (h.facts.names _ refl)
+                (far_leads (place_at w f i) (w.address (key_at w.program f i)) t.pc machine.B sp h.here);
+          })
+
+  bl_step : (name : List ℕ) → Stands w t f i (instrs.Plain (plains.Jump (jumps.Bl name)))
+      → Goes w t (act w.program f i s (key_at w.program f i) (instrs.Plain (plains.Jump (jumps.Bl name))))
+  bl_step name h = at (is_target w.program (symbol_value w.program.kinds (key_at w.program f i) (pos 0) 0)) refl
     where
       at : (b : Bool) → is_target w.program (symbol_value w.program.kinds (key_at w.program f i) (pos 0) 0) ≡ b
-          → Goes w t (if b then asm.Went (record (linked s f i) { place = symbol_value w.program.kinds (key_at w.program f i) (pos 0) 0 }) else asm.Undefined whys.Target)
+          → Goes w t (if b then asm.Went
+          (record (linked s f i) {
+            place = symbol_value w.program.kinds (key_at w.program f i)
+                (pos 0) 0;
+          }) else asm.Undefined whys.Target)
       at false e = tt
       at true e =
-          let sp = plain_spelt w (place_at w f i) (target_in w f i (instrs.Plain (plains.Jump (jumps.Bl name)))) (plains.Jump (jumps.Bl name)) (loaded_word w.image (place_at w f i)) h.facts.spelt in
+          let sp = plain_spelt w (place_at w f i) (target_in w f i (instrs.Plain (plains.Jump (jumps.Bl name))))
+          (plains.Jump (jumps.Bl name)) (loaded_word w.image (place_at w f i)) h.facts.spelt in
           let b = sp.code.below in
-          let back = linked_files (instrs.Plain (plains.Jump (jumps.Bl name))) h (plain_len (plains.Jump (jumps.Bl name)) (loaded_word w.image (place_at w f i))) b in
-          one w s t r _ (record { file = put t.file Lr (following t); pc = target t (displacement_in 26 (loaded_word w.image (place_at w f i))); mem = t.mem }) (fetch_law w t _ _ sp.code r.same h.here) (record {
+          let back = linked_files (instrs.Plain (plains.Jump (jumps.Bl name))) h
+          (plain_len (plains.Jump (jumps.Bl name)) (loaded_word w.image (place_at w f i))) b in
+          one w s t r _ (record {
+            file = put t.file Lr (following t);
+            pc = target t (displacement_in 26 (loaded_word w.image (place_at w f i)));
+            mem = t.mem;
+          })
+          (fetch_law w t _ _ sp.code r.same h.here) (record {
             laid = r.laid;
             frame = r.frame;
             pointer = r.pointer;
             files = put_law w s.live s.next s.file t.file r.files Lr _ _ tt back;
             cells = r.cells;
             same = r.same;
-            place = record { target = e; means = symbol_place (key_at w.program f i) (target t (displacement_in 26 (loaded_word w.image (place_at w f i)))) (h.facts.names _ refl) (far_leads (place_at w f i) (w.address (key_at w.program f i)) t.pc machine.Bl sp h.here) };
+            place = record {
+              target = e;
+              means = symbol_place (key_at w.program f i)
+                  (target t (displacement_in 26 (loaded_word w.image (place_at w f i)))) (h.facts.names _ refl)
+                  (far_leads (place_at w f i) (w.address (key_at w.program f i)) t.pc machine.Bl sp h.here);
+            };
           })
-  jump_step (jumps.Bdnz label) h = at s.file.ctr r.files.ctr
+
+  bdnz_step : (label : ℕ) → Stands w t f i (instrs.Plain (plains.Jump (jumps.Bdnz label)))
+      → Goes w t (act w.program f i s (key_at w.program f i) (instrs.Plain (plains.Jump (jumps.Bdnz label))))
+  bdnz_step label h = at s.file.ctr r.files.ctr
     where
       at : (v : Val) → Means w s.live s.next v t.file.ctr → Goes w t (counts w.program f i s label v)
       at (Int n) m = test (flat.counted n == 0) refl
         where
           test : (q : Bool) → (flat.counted n == 0) ≡ q
-              → Goes w t (asm.Went (record s { file = put s.file Ctr (Int (leaps.counted n)); place = if q then Code f (suc i) else at_label w.program f label }))
+              → Goes w t (asm.Went (record s {
+                file = put s.file Ctr (Int (leaps.counted n));
+                place = if q then Code f (suc i) else at_label w.program f label;
+              }))
           test q e =
-              let sp = plain_spelt w (place_at w f i) (target_in w f i (instrs.Plain (plains.Jump (jumps.Bdnz label)))) (plains.Jump (jumps.Bdnz label)) (loaded_word w.image (place_at w f i)) h.facts.spelt in
+              let sp = plain_spelt w (place_at w f i) (target_in w f i (instrs.Plain (plains.Jump (jumps.Bdnz label))))
+              (plains.Jump (jumps.Bdnz label)) (loaded_word w.image (place_at w f i)) h.facts.spelt in
               let b = sp.code.below in
               let d = displacement_in 16 (loaded_word w.image (place_at w f i)) in
               let e1 : (flat.counted t.file.ctr == 0) ≡ q = ap (λ z. flat.counted z == 0) m.shows ∙ e in
               let hh = h.here in
-              one w s t r _ (record { file = put t.file Ctr (flat.counted t.file.ctr); pc = if q then following t else target t d; mem = t.mem })
-              (then_is w t (fetch_law w t _ _ sp.code r.same h.here) (ap (λ z. Went (record { file = put t.file Ctr (flat.counted t.file.ctr); pc = if z then following t else target t d; mem = t.mem })) e1)) (record {
+              one w s t r _ (record {
+                file = put t.file Ctr (flat.counted t.file.ctr);
+                pc = if q then following t else target t d;
+                mem = t.mem;
+              })
+              (then_is w t (fetch_law w t _ _ sp.code r.same h.here) (ap
+              (λ z. Went (record {
+                file = put t.file Ctr (flat.counted t.file.ctr);
+                pc = if z then following t else target t d;
+                mem = t.mem;
+              })) e1)) (record {
                 laid = r.laid;
                 frame = r.frame;
                 pointer = r.pointer;
                 files = put_law w s.live s.next s.file t.file r.files Ctr _ _ tt (int_means w s.live s.next _ _ (ap flat.counted m.shows));
                 cells = r.cells;
                 same = r.same;
-                place = by q (next_place w s.live s.next f i (instrs.Plain (plains.Jump (jumps.Bdnz label))) 1 h.known h.is h.facts (plain_len (plains.Jump (jumps.Bdnz label)) (loaded_word w.image (place_at w f i))) (following t) (omega arith)) (label_agrees label _ h.known (first_stands (has_label (code_of w.program f)) label [] h.facts.shaped.labels) (near_leads (place_at w f i) _ t.pc (machine.Bc 16 0) sp h.here));
+                place = by q (next_place w s.live s.next f i (instrs.Plain (plains.Jump (jumps.Bdnz label))) 1 h.known h.is h.facts
+                    (plain_len (plains.Jump (jumps.Bdnz label)) (loaded_word w.image (place_at w f i))) (following t) (omega arith))
+                    (label_agrees label _ h.known (first_stands (has_label (code_of w.program f)) label [] h.facts.shaped.labels)
+                    (near_leads (place_at w f i) _ t.pc (machine.Bc 16 0) sp h.here));
               })
             where
               by : (q : Bool) → PlacesAgree w s.live s.next (Code f (suc i)) (following t)
-                  → PlacesAgree w s.live s.next (at_label w.program f label) (target t (displacement_in 16 (loaded_word w.image (place_at w f i))))
-                  → PlacesAgree w s.live s.next (if q then Code f (suc i) else at_label w.program f label) (if q then following t else target t (displacement_in 16 (loaded_word w.image (place_at w f i))))
+                  → PlacesAgree w s.live s.next (at_label w.program f label)
+                  (target t (displacement_in 16 (loaded_word w.image (place_at w f i))))
+                  → PlacesAgree w s.live s.next (if q then Code f (suc i) else at_label w.program f label)
+                  (if q then following t else target t (displacement_in 16 (loaded_word w.image (place_at w f i))))
               by true a b = a
               by false a b = b
       at Undef m = tt
@@ -160,32 +208,22 @@ module _ (w : World) (ok : Fits w) (s : State) (t : FlatState) (r : Related w s 
       at (Ext _ _) m = tt
       at Stop m = tt
       at (Ha _ _ _) m = tt
-  jump_step jumps.Blr h = at (is_target w.program s.file.lr) refl
-    where
-      at : (b : Bool) → is_target w.program s.file.lr ≡ b
-          → Goes w t (if b then asm.Went (record s { place = s.file.lr }) else asm.Undefined whys.Target)
-      at false e = tt
-      at true e =
-          let sp = plain_spelt w (place_at w f i) (target_in w f i (instrs.Plain (plains.Jump jumps.Blr))) (plains.Jump jumps.Blr) (loaded_word w.image (place_at w f i)) h.facts.spelt in
-          goes_to s.file.lr (aligned t.file.lr) _ _ sp.code h.here refl (target_law w ok s.live s.next s.file.lr t.file.lr e r.files.lr)
-  jump_step jumps.Bctr h = at (is_target w.program s.file.ctr) refl
-    where
-      at : (b : Bool) → is_target w.program s.file.ctr ≡ b
-          → Goes w t (if b then asm.Went (record s { place = s.file.ctr }) else asm.Undefined whys.Target)
-      at false e = tt
-      at true e =
-          let sp = plain_spelt w (place_at w f i) (target_in w f i (instrs.Plain (plains.Jump jumps.Bctr))) (plains.Jump jumps.Bctr) (loaded_word w.image (place_at w f i)) h.facts.spelt in
-          goes_to s.file.ctr (aligned t.file.ctr) _ _ sp.code h.here refl (target_law w ok s.live s.next s.file.ctr t.file.ctr e r.files.ctr)
-  jump_step jumps.Bctrl h = at (is_target w.program s.file.ctr) refl
+
+  bctrl_step : Stands w t f i (instrs.Plain (plains.Jump jumps.Bctrl))
+      → Goes w t (act w.program f i s (key_at w.program f i) (instrs.Plain (plains.Jump jumps.Bctrl)))
+  bctrl_step h = at (is_target w.program s.file.ctr) refl
     where
       at : (b : Bool) → is_target w.program s.file.ctr ≡ b
           → Goes w t (if b then asm.Went (record (linked s f i) { place = s.file.ctr }) else asm.Undefined whys.Target)
       at false e = tt
       at true e =
-          let sp = plain_spelt w (place_at w f i) (target_in w f i (instrs.Plain (plains.Jump jumps.Bctrl))) (plains.Jump jumps.Bctrl) (loaded_word w.image (place_at w f i)) h.facts.spelt in
+          let sp = plain_spelt w (place_at w f i) (target_in w f i (instrs.Plain (plains.Jump jumps.Bctrl))) (plains.Jump jumps.Bctrl)
+          (loaded_word w.image (place_at w f i)) h.facts.spelt in
           let b = sp.code.below in
-          let back = linked_files (instrs.Plain (plains.Jump jumps.Bctrl)) h (plain_len (plains.Jump jumps.Bctrl) (loaded_word w.image (place_at w f i))) b in
-          one w s t r _ (record { file = put t.file Lr (following t); pc = aligned t.file.ctr; mem = t.mem }) (fetch_law w t _ _ sp.code r.same h.here) (record {
+          let back = linked_files (instrs.Plain (plains.Jump jumps.Bctrl)) h
+          (plain_len (plains.Jump jumps.Bctrl) (loaded_word w.image (place_at w f i))) b in
+          one w s t r _ (record { file = put t.file Lr (following t); pc = aligned t.file.ctr; mem = t.mem })
+          (fetch_law w t _ _ sp.code r.same h.here) (record {
             laid = r.laid;
             frame = r.frame;
             pointer = r.pointer;
@@ -194,6 +232,37 @@ module _ (w : World) (ok : Fits w) (s : State) (t : FlatState) (r : Related w s 
             same = r.same;
             place = target_law w ok s.live s.next s.file.ctr t.file.ctr e r.files.ctr;
           })
+
+  pub jump_step : (j : Jump) → Stands w t f i (instrs.Plain (plains.Jump j))
+      → Goes w t (act w.program f i s (key_at w.program f i) (instrs.Plain (plains.Jump j)))
+  jump_step (jumps.B label) h =
+      let sp = plain_spelt w (place_at w f i) _ (plains.Jump (jumps.B label)) _ h.facts.spelt in
+      goes_to _ (target t (displacement_in 26 (loaded_word w.image (place_at w f i)))) _ _ sp.code h.here refl
+      (label_agrees label _ h.known (first_stands (has_label (code_of w.program f)) label [] h.facts.shaped.labels)
+      (far_leads (place_at w f i) _ t.pc machine.B sp h.here))
+  jump_step (jumps.Bs name) h = bs_step name h
+  jump_step (jumps.Bl name) h = bl_step name h
+  jump_step (jumps.Bdnz label) h = bdnz_step label h
+  jump_step jumps.Blr h = at (is_target w.program s.file.lr) refl
+    where
+      at : (b : Bool) → is_target w.program s.file.lr ≡ b
+          → Goes w t (if b then asm.Went (record s { place = s.file.lr }) else asm.Undefined whys.Target)
+      at false e = tt
+      at true e =
+          let sp = plain_spelt w (place_at w f i) (target_in w f i (instrs.Plain (plains.Jump jumps.Blr))) (plains.Jump jumps.Blr)
+          (loaded_word w.image (place_at w f i)) h.facts.spelt in
+          goes_to s.file.lr (aligned t.file.lr) _ _ sp.code h.here refl (target_law w ok s.live s.next s.file.lr t.file.lr e r.files.lr)
+  jump_step jumps.Bctr h = at (is_target w.program s.file.ctr) refl
+    where
+      at : (b : Bool) → is_target w.program s.file.ctr ≡ b
+          → Goes w t (if b then asm.Went (record s { place = s.file.ctr }) else asm.Undefined whys.Target)
+      at false e = tt
+      at true e =
+          let sp = plain_spelt w (place_at w f i) (target_in w f i (instrs.Plain (plains.Jump jumps.Bctr))) (plains.Jump jumps.Bctr)
+          (loaded_word w.image (place_at w f i)) h.facts.spelt in
+          goes_to s.file.ctr (aligned t.file.ctr) _ _ sp.code h.here refl
+          (target_law w ok s.live s.next s.file.ctr t.file.ctr e r.files.ctr)
+  jump_step jumps.Bctrl h = bctrl_step h
   jump_step jumps.Trap h = tt
 
   -- ---- marks
@@ -221,16 +290,23 @@ module _ (w : World) (ok : Fits w) (s : State) (t : FlatState) (r : Related w s 
       → branch_file bo t.file ≡ t.file → branch_file over t.file ≡ t.file
       → ((d : ℤ) (u : FlatState) → u.file ≡ t.file → branch_place u bo bit d ≡ (if q then target u d else following u))
       → ((d : ℤ) (u : FlatState) → u.file ≡ t.file → branch_place u over bit d ≡ (if q then following u else target u d))
-      → Spelts w (place_at w f i) (if b then closed (machine.Bc over bit (pos 8)) ∷ far (label_address w.image (w.function_at f) (code_of w.program f) label) machine.B ∷ [] else near (label_address w.image (w.function_at f) (code_of w.program f) label) (machine.Bc bo bit) ∷ [])
+      → Spelts w (place_at w f i) (if b then closed (machine.Bc over bit (pos 8)) ∷ far
+      (label_address w.image (w.function_at f) (code_of w.program f) label) machine.B ∷ [] else near
+      (label_address w.image (w.function_at f) (code_of w.program f) label) (machine.Bc bo bit) ∷ [])
       → Goes w t (asm.Went (record s { place = if q then at_label w.program f label else Code f (suc i) }))
   branch_at x bo over bit label n true h lab false e l f1 f2 near far sp =
-      goes_to _ (target t (displacement_in 16 (loaded_word w.image (place_at w f i)))) _ _ sp.0.code h.here (ap₂ (λ a b. flat.at t a b) f1 (near (displacement_in 16 (loaded_word w.image (place_at w f i))) t refl)) (label_agrees label _ h.known lab (near_leads (place_at w f i) _ t.pc (machine.Bc bo bit) sp.0 h.here))
+      goes_to _ (target t (displacement_in 16 (loaded_word w.image (place_at w f i)))) _ _ sp.0.code h.here
+      (ap₂ (λ a b. flat.at t a b) f1 (near (displacement_in 16 (loaded_word w.image (place_at w f i))) t refl))
+      (label_agrees label _ h.known lab (near_leads (place_at w f i) _ t.pc (machine.Bc bo bit) sp.0 h.here))
   branch_at x bo over bit label n false h lab false e l f1 f2 near far sp =
       let b = sp.0.code.below in let hh = h.here in
-      goes_to _ (following t) _ _ sp.0.code h.here (ap₂ (λ a b. flat.at t a b) f1 (near (displacement_in 16 (loaded_word w.image (place_at w f i))) t refl)) (next_place w s.live s.next f i x 1 h.known h.is h.facts l (following t) (omega arith))
+      goes_to _ (following t) _ _ sp.0.code h.here (ap₂ (λ a b. flat.at t a b) f1
+      (near (displacement_in 16 (loaded_word w.image (place_at w f i))) t refl))
+      (next_place w s.live s.next f i x 1 h.known h.is h.facts l (following t) (omega arith))
   branch_at x bo over bit label n false h lab true e l f1 f2 near far sp =
       let b = sp.0.code.below in let b2 = sp.1.0.code.below in let hh = h.here in
-      goes_to _ (target t (pos 8)) _ _ sp.0.code h.here (ap₂ (λ a b. flat.at t a b) f2 (far (pos 8) t refl)) (next_place w s.live s.next f i x 2 h.known h.is h.facts l (target t (pos 8)) (omega arith))
+      goes_to _ (target t (pos 8)) _ _ sp.0.code h.here (ap₂ (λ a b. flat.at t a b) f2 (far (pos 8) t refl))
+      (next_place w s.live s.next f i x 2 h.known h.is h.facts l (target t (pos 8)) (omega arith))
   branch_at x bo over bit label n true h lab true e l f1 f2 near far sp = λ fits.
       let b = sp.0.code.below in let b2 = sp.1.0.code.below in let hh = h.here in
       let p4 : following t ≡ place_at w f i + 4 = omega arith in
@@ -264,9 +340,13 @@ module _ (w : World) (ok : Fits w) (s : State) (t : FlatState) (r : Related w s 
       at : (v : Val) → Means w s.live s.next v (get 0 t.file (Bit bit)) → Goes w t (branched w.program f i s label true v)
       at (Int n) m =
           let e : (get 0 t.file (Bit bit) == 1) ≡ (n == 1) = ap (λ z. z == 1) m.shows in
-          branch_at (instrs.Bt bit label) 12 4 bit label n (n == 1) h (first_stands (has_label (code_of w.program f)) label [] h.facts.shaped.labels) (is_bc 4 (loaded_word w.image (place_at w f i))) refl refl refl refl
-          (λ d u q. ap (λ g. if get 0 g (Bit bit) == 1 then target u d else following u) q ∙ ap (λ b. if b then target u d else following u) e)
-          (λ d u q. ap (λ g. if not (get 0 g (Bit bit) == 1) then target u d else following u) q ∙ ap (λ b. if not b then target u d else following u) e ∙ turn (n == 1) (target u d) (following u))
+          branch_at (instrs.Bt bit label) 12 4 bit label n (n == 1) h
+          (first_stands (has_label (code_of w.program f)) label [] h.facts.shaped.labels)
+          (is_bc 4 (loaded_word w.image (place_at w f i))) refl refl refl refl
+          (λ d u q. ap (λ g. if get 0 g (Bit bit) == 1 then target u d else following u) q
+          ∙ ap (λ b. if b then target u d else following u) e)
+          (λ d u q. ap (λ g. if not (get 0 g (Bit bit) == 1) then target u d else following u) q
+          ∙ ap (λ b. if not b then target u d else following u) e ∙ turn (n == 1) (target u d) (following u))
           h.facts.spelt
         where
           turn : (b : Bool) (x y : ℕ) → (if not b then x else y) ≡ (if b then y else x)
@@ -287,9 +367,13 @@ module _ (w : World) (ok : Fits w) (s : State) (t : FlatState) (r : Related w s 
       at : (v : Val) → Means w s.live s.next v (get 0 t.file (Bit bit)) → Goes w t (branched w.program f i s label false v)
       at (Int n) m =
           let e : (get 0 t.file (Bit bit) == 1) ≡ (n == 1) = ap (λ z. z == 1) m.shows in
-          branch_at (instrs.Bf bit label) 4 12 bit label n (not (n == 1)) h (first_stands (has_label (code_of w.program f)) label [] h.facts.shaped.labels) (is_bc 12 (loaded_word w.image (place_at w f i))) refl refl refl refl
-          (λ d u q. ap (λ g. if not (get 0 g (Bit bit) == 1) then target u d else following u) q ∙ ap (λ b. if not b then target u d else following u) e)
-          (λ d u q. ap (λ g. if get 0 g (Bit bit) == 1 then target u d else following u) q ∙ ap (λ b. if b then target u d else following u) e ∙ turn (n == 1) (target u d) (following u))
+          branch_at (instrs.Bf bit label) 4 12 bit label n (not (n == 1)) h
+          (first_stands (has_label (code_of w.program f)) label [] h.facts.shaped.labels)
+          (is_bc 12 (loaded_word w.image (place_at w f i))) refl refl refl refl
+          (λ d u q. ap (λ g. if not (get 0 g (Bit bit) == 1) then target u d else following u) q
+          ∙ ap (λ b. if not b then target u d else following u) e)
+          (λ d u q. ap (λ g. if get 0 g (Bit bit) == 1 then target u d else following u) q
+          ∙ ap (λ b. if b then target u d else following u) e ∙ turn (n == 1) (target u d) (following u))
           h.facts.spelt
         where
           turn : (b : Bool) (x y : ℕ) → (if b then x else y) ≡ (if not b then y else x)

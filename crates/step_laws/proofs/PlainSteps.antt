@@ -1,5 +1,6 @@
 -- The step laws of plain instructions that are no jumps.
-use Rattle.std.proofs.Common.{◌≡◌, ℕ, zero, suc, ◌+◌, ◌*◌, ◌<◌, Bool, true, false, List, [], ◌∷◌, length, Option, Some, None, refl, sym, ap, ap₂, ◌∙◌, subst, arith, if◌then◌else◌}
+use Rattle.std.proofs.Common.{◌≡◌, ℕ, zero, suc, ◌+◌, ◌*◌, ◌<◌, Bool, true, false, List, [], ◌∷◌, length, Option, Some, None, refl, sym}
+use Rattle.std.proofs.Common.{ap, ap₂, ◌∙◌, subst, arith, if◌then◌else◌}
 use Rattle.isa_model.specs.Word.{wrapped}
 use Rattle.effect_model.specs.declared.Place.{Place}
 use Rattle.effect_model.specs.declared.Place.TheVariants.{Gpr}
@@ -67,7 +68,8 @@ module _ (w : World) (ok : Fits w) (s : State) (t : FlatState) (r : Related w s 
   alike_step : (x : Plain) (key : ℕ) (a b : Action) (m : Machine) → Stands w t f i (instrs.Plain x) → CodeAt w (place_at w f i) m
       → action_of m ≡ b → Alike w s.live s.next a b → Goes w t (steps.performed w.program f i s key x a)
   alike_step x key _ _ m h c e (Works es ds law) =
-      moves_on w s t r f i (instrs.Plain x) m _ _ h c (plain_len x _) (ap (performed t m) e) (law.files s.file t.file r.files) (law.spares s.file)
+      moves_on w s t r f i (instrs.Plain x) m _ _ h c (plain_len x _) (ap (performed t m) e) (law.files s.file t.file r.files)
+      (law.spares s.file)
   alike_step x key _ _ m h c e (Divides d law) = at (word_in (value_read s.file d.x)) (word_in (value_read s.file d.y)) refl refl
     where
       at : (p q : Option ℕ) → word_in (value_read s.file d.x) ≡ p → word_in (value_read s.file d.y) ≡ q
@@ -87,7 +89,8 @@ module _ (w : World) (ok : Fits w) (s : State) (t : FlatState) (r : Related w s 
       at (Some p) None e1 e2 = tt
       at None q e1 e2 = tt
   alike_step x key _ _ m h c e (Loads form u v y z to sums free) =
-      at (load_by s.live form (sum_args w.program.kinds (value_read s.file u) (value_read s.file v))) (load_law w ok s.live s.next t.mem (memory_of w s t r) form _ _ (sums s.file t.file r.files))
+      at (load_by s.live form (sum_args w.program.kinds (value_read s.file u) (value_read s.file v)))
+      (load_law w ok s.live s.next t.mem (memory_of w s t r) form _ _ (sums s.file t.file r.files))
     where
       at : (o : Option Val) → LoadAgrees w s.live s.next o (loaded t.mem form (wrapped (word_read t.file y + word_read t.file z)))
           → Goes w t (steps.loaded f i s to o)
@@ -102,10 +105,16 @@ module _ (w : World) (ok : Fits w) (s : State) (t : FlatState) (r : Related w s 
       to = sum_args w.program.kinds (value_read s.file u) (value_read s.file v)
 
       at : (b : Bool) → may_store_by s.live form (sum_args w.program.kinds (value_read s.file u) (value_read s.file v)) ≡ b
-          → Goes w t (if b then asm.Went (record (gone s f i s.file) { live = stored_by s.live form (sum_args w.program.kinds (value_read s.file u) (value_read s.file v)) (get Undef s.file from) }) else asm.Undefined whys.Access)
+          → Goes w t (if b then asm.Went
+          (record (gone s f i s.file) {
+            live = stored_by s.live form
+                (sum_args w.program.kinds (value_read s.file u) (value_read s.file v))
+                (get Undef s.file from);
+          }) else asm.Undefined whys.Access)
       at false q = tt
       at true q =
-          let l = store_law w ok s.live s.next t.mem (memory_of w s t r) form _ (get Undef s.file from) _ (get 0 t.file from) (sums s.file t.file r.files) (get_law w s.live s.next s.file t.file r.files from) q in
+          let l = store_law w ok s.live s.next t.mem (memory_of w s t r) form _ (get Undef s.file from) _ (get 0 t.file from)
+          (sums s.file t.file r.files) (get_law w s.live s.next s.file t.file r.files from) q in
           let live = stored_by s.live form (sum_args w.program.kinds (value_read s.file u) (value_read s.file v)) (get Undef s.file from) in
           let keep = same_homes w s.live live s.next l.homes in
           let b = c.below in
@@ -124,7 +133,8 @@ module _ (w : World) (ok : Fits w) (s : State) (t : FlatState) (r : Related w s 
   keyed : (x : Plain) → Stands w t f i (instrs.Plain x) → Keyed w x (key_at w.program f i) (target_in w f i (instrs.Plain x))
   keyed x h r q = (
     h.facts.names r q,
-    ap (λ o. option_map_or (λ (r : Reference). w.address (key_at w.program f i)) o (first_label (label_address w.image (w.function_at f) (code_of w.program f)) (labels_named (instrs.Plain x)))) q,
+    ap (λ o. option_map_or (λ (r : Reference). w.address (key_at w.program f i)) o
+        (first_label (label_address w.image (w.function_at f) (code_of w.program f)) (labels_named (instrs.Plain x)))) q,
   )
 
   -- all plain instructions but jumps
@@ -133,4 +143,5 @@ module _ (w : World) (ok : Fits w) (s : State) (t : FlatState) (r : Related w s 
   plain_step x n h =
       let sp = plain_spelt w (place_at w f i) (target_in w f i (instrs.Plain x)) x _ h.facts.spelt in
       alike_step x (key_at w.program f i) _ _ _ h sp.code refl
-      (plain_alike w ok s.live s.next r.laid x (key_at w.program f i) (target_in w f i (instrs.Plain x)) (place_at w f i) (loaded_word w.image (place_at w f i)) n h.facts.shaped.free h.facts.shaped.range sp.agreed (keyed x h))
+      (plain_alike w ok s.live s.next r.laid x (key_at w.program f i) (target_in w f i (instrs.Plain x)) (place_at w f i)
+      (loaded_word w.image (place_at w f i)) n h.facts.shaped.free h.facts.shaped.range sp.agreed (keyed x h))

@@ -1,7 +1,9 @@
 -- What every step law rests on: places, the fetch, and a step to the next instruction.
-use Rattle.std.proofs.Common.{◌≡◌, ℕ, zero, suc, ◌+◌, ◌*◌, ◌%◌, ◌<◌, ◌≤◌, Bool, true, false, ◌&&◌, List, [], ◌∷◌, length, Option, Some, None, refl, sym, ap, ap₂, ◌∙◌, subst, arith, if◌then◌else◌}
+use Rattle.std.proofs.Common.{◌≡◌, ℕ, zero, suc, ◌+◌, ◌*◌, ◌%◌, ◌<◌, ◌≤◌, Bool, true, false, ◌&&◌, List, [], ◌∷◌, length, Option, Some}
+use Rattle.std.proofs.Common.{None, refl, sym, ap, ap₂, ◌∙◌, subst, arith, if◌then◌else◌}
 use Rattle.std.specs.Prelude.{slice_get, ◌==◌, find, is_some, not, Result, Ok, Err}
 use Rattle.std.proofs.lemmas.Bool.{eq-eqb, ne_eqb, and_from}
+use Rattle.std.proofs.lemmas.Option.{slice_get_within}
 use Rattle.isa_model.specs.Word.{wrapped}
 use Rattle.image_model.specs.Image.{Segment}
 use Rattle.image_model.specs.Loaded.{is_executable}
@@ -31,7 +33,7 @@ use Rattle.machine_model.specs.Worlds.{World, code_of, place_at}
 use Rattle.machine_model.specs.Fits.{Fits, CodeAt, InstrIs}
 use Rattle.machine_model.specs.Relation.{FilesAgree, Same, PlacesAgree, Means, Related}
 use Rattle.machine_model.specs.Leads.{Does, Goes}
-use Rattle.memory_laws.proofs.SegmentLaws.{each_law, word_law, get_below, same_run, same_mapped}
+use Rattle.memory_laws.proofs.SegmentLaws.{each_law, word_law, same_run, same_mapped}
 use Rattle.step_laws.specs.Laws.{Stands}
 
 mapped_of : (o : Option ℕ) → option_map_or is_executable o false ≡ true → is_some o ≡ true
@@ -52,7 +54,8 @@ module _ (w : World) where
       let x0 = each_law (is_mapped t.mem) 4 a b (λ i h. mapped_of (flags_in t.mem (a + i)) (runs i h)) in
       let word = word_law t.mem w.memory a b (λ i h. s.bytes (a + i) (c.apart i h)) in
       let fetch : fetched t.mem a ≡ Ok (word_of w.memory a) =
-      ap (λ q. if not q then Err Unmapped else if not (each_from (may_run t.mem) 4 a) then Err NotCode else if not (a % 4 == 0) then Err NotCode else Ok (word_of t.mem a)) x0
+      ap (λ q. if not q then Err Unmapped else if not (each_from (may_run t.mem) 4 a) then Err NotCode else if not
+      (a % 4 == 0) then Err NotCode else Ok (word_of t.mem a)) x0
       ∙ ap (λ q. if not q then Err NotCode else if not (a % 4 == 0) then Err NotCode else Ok (word_of t.mem a)) x1
       ∙ ap (λ q. if not q then Err NotCode else Ok (word_of t.mem a)) (eq-eqb (a % 4) 0 c.multiple)
       ∙ ap Ok word in
@@ -69,8 +72,15 @@ module _ (w : World) where
       → a ≡ place_at w f i + 4 * n → PlacesAgree w live next (Code f (suc i)) a
   unfolding address_after
   next_place live next f i x n known is facts l a e =
-      let lt = get_below (code_of w.program f) i x is in
-      record { target = refl; means = record { named = (known, omega arith); shows = e ∙ ap (λ z. place_at w f i + 4 * z) (sym l) ∙ sym facts.next } }
+      let lt = slice_get_within (code_of w.program f) i x is in
+      record {
+        target = refl;
+        means = record {
+          named = (known, omega arith);
+          shows = e ∙ ap (λ z. place_at w f i + 4 * z) (sym l)
+              ∙ sym facts.next;
+        };
+      }
 
   module _ (s : State) (t : FlatState) (r : Related w s t) where
     -- one step of the flat machine

@@ -1,7 +1,10 @@
 -- The step law of a jump by a table: five words.
-use Rattle.std.proofs.Common.{◌≡◌, ℕ, zero, suc, ◌+◌, ◌*◌, ◌/◌, ◌%◌, ◌<◌, ◌≤◌, Bool, true, false, ◌&&◌, nat_lt, List, [], ◌∷◌, length, Option, Some, None, refl, sym, ap, ap₂, ◌∙◌, subst, arith, if◌then◌else◌, get_or-set_same, length-set, bit_and}
+use Rattle.std.proofs.Common.{◌≡◌, ℕ, zero, suc, ◌+◌, ◌*◌, ◌/◌, ◌%◌, ◌<◌, ◌≤◌, Bool, true, false, ◌&&◌, nat_lt, List, [], ◌∷◌, length}
+use Rattle.std.proofs.Common.{Option, Some, None, refl, sym, ap, ap₂, ◌∙◌, subst, arith, if◌then◌else◌, get_or-set_same, length-set}
+use Rattle.std.proofs.Common.{bit_and}
 use Rattle.std.proofs.lemmas.Grind.{and_high_numeral}
 use Rattle.std.proofs.lemmas.Bool.{ltb-true, and_parts}
+use Rattle.std.proofs.lemmas.Option.{slice_get-get_or}
 use Rattle.std.proofs.Math.Seq.{set-set}
 use Rattle.std.specs.Prelude.{slice_get, slice_index_or}
 use Rattle.std.specs.List.{list_all}
@@ -43,16 +46,6 @@ use Rattle.step_laws.specs.Laws.{Stands}
 use Rattle.step_laws.proofs.Steps.{then_is, fetch_law}
 use Rattle.step_laws.proofs.Targets.{label_at, label_agrees}
 
-pub get_or_is : {A : Type 0} (xs : List A) (i : ℕ) (x d : A) → slice_get xs i ≡ Some x → slice_index_or xs i d ≡ x
-get_or_is [] i x d e = cc
-get_or_is (y ∷ ys) zero x d e = let q : y ≡ x = cc in q
-get_or_is (y ∷ ys) (suc i) x d e = get_or_is ys i x d e
-
-pub get_some : {A : Type 0} (xs : List A) (i : ℕ) → i < length xs → (x : A) × (slice_get xs i ≡ Some x)
-get_some [] i h = absurd (omega arith)
-get_some (y ∷ ys) zero h = (y, refl)
-get_some (y ∷ ys) (suc i) h = get_some ys i (omega arith)
-
 and_shift : (x : ℕ) → x < 1073741824 → bit_and (wrapped (x * 4) + x / 1073741824) 4294967292 ≡ 4 * x
 and_shift x h =
     let e : wrapped (x * 4) + x / 1073741824 ≡ 4 * x = omega arith in
@@ -61,7 +54,8 @@ and_shift x h =
     ap (λ y. bit_and y 4294967292) e ∙ omega arith
 
 rotate_file : (g : File ℕ) (q : ℕ)
-    → flat_all (One (effect (simple (op.Rotation 2 0 29)) (register q) (Number 0) (Gpr 12))) g ≡ put g (Gpr 12) (bit_and (wrapped (get 0 g (Gpr q) * 4) + get 0 g (Gpr q) / 1073741824) 4294967292)
+    → flat_all (One (effect (simple (op.Rotation 2 0 29)) (register q) (Number 0) (Gpr 12))) g
+    ≡ put g (Gpr 12) (bit_and (wrapped (get 0 g (Gpr q) * 4) + get 0 g (Gpr q) / 1073741824) 4294967292)
 unfolding flat_effect results
 rotate_file g q = refl
 
@@ -93,13 +87,16 @@ table_load w t s a x h =
 module _ (w : World) (ok : Fits w) (s : State) (t : FlatState) (r : Related w s t) (f i q : ℕ) (labels : List ℕ) where
   table_case : (j : ℕ) → get 0 t.file (Gpr q) ≡ j → j < length labels → Stands w t f i (instrs.Btbl q labels)
       → Spelts w (place_at w f i) (table_forms q)
-      → Goes w t (asm.Went (record s { file = put (put s.file (Gpr 12) Undef) Ctr Undef; place = at_label w.program f (slice_index_or labels j 0) }))
+      → Goes w t (asm.Went (record s {
+        file = put (put s.file (Gpr 12) Undef) Ctr Undef;
+        place = at_label w.program f (slice_index_or labels j 0);
+      }))
   table_case j ej hj h sp fits =
       let at = place_at w f i in
       let hh = h.here in
       let wide = r.files.wide in
-      let lb = get_some labels j hj in
-      let le : slice_index_or labels j 0 ≡ lb.0 = get_or_is labels j lb.0 0 lb.1 in
+      let lb : (l : ℕ) × (slice_get labels j ≡ Some l) = (slice_index_or labels j 0, slice_get-get_or labels j 0 hj) in
+      let le : slice_index_or labels j 0 ≡ lb.0 = refl in
       let table = ok.tables f i q labels j lb.0 h.known h.is lb.1 in
       let has = each_at (has_label (code_of w.program f)) labels j lb.0 h.facts.shaped.labels lb.1 in
       let la = label_at w.image (w.function_at f) (code_of w.program f) lb.0 has in
@@ -114,7 +111,8 @@ module _ (w : World) (ok : Fits w) (s : State) (t : FlatState) (r : Related w s 
       let x1_is : x1 ≡ 4 * get 0 t.file (Gpr q) = and_shift (get 0 t.file (Gpr q)) (omega arith) in
       let g1 = put t.file (Gpr 12) x1 in
       let t1 : FlatState = record { file = g1; pc = following t; mem = t.mem } in
-      let b1 = sp.0.code.below in let b2 = sp.1.0.code.below in let b3 = sp.1.1.0.code.below in let b4 = sp.1.1.1.0.code.below in let b5 = sp.1.1.1.1.0.code.below in
+      let b1 = sp.0.code.below in let b2 = sp.1.0.code.below in let b3 = sp.1.1.0.code.below in let b4 = sp.1.1.1.0.code.below in
+      let b5 = sp.1.1.1.1.0.code.below in
       let e1 = then_is w t (fetch_law w t _ _ sp.0.code r.same h.here) (ap (λ g. on t g t.mem) (rotate_file t.file q)) in
       let r1 : get 0 g1 (Gpr 12) ≡ x1 = get_or-set_same t.file.gprs 12 x1 0 (omega arith) in
       let p1 : t1.pc ≡ at + 4 = omega arith in
@@ -129,7 +127,9 @@ module _ (w : World) (ok : Fits w) (s : State) (t : FlatState) (r : Related w s 
       let a = wrapped (get 0 g2 (Gpr 12) + cast_unsigned w32 (half_field wd2)) in
       let c1 : cast_unsigned w32 (half_field wd1) ≡ spread (lo wd1) = short_word (lo wd1) (omega arith) in
       let c2 : cast_unsigned w32 (half_field wd2) ≡ spread (lo wd2) = short_word (lo wd2) (omega arith) in
-      let a_is : a ≡ table_address w.image at + 4 * j = places (loaded_word w.image (at + 4)) wd1 wd2 (loaded_word w.image (at + 8)) j (get 0 g1 (Gpr 12)) _ _ _ (r1 ∙ x1_is ∙ ap (λ z. 4 * z) ej) c1 c2 r2 refl (ap (loaded_word w.image) (eight at)) tb in
+      let a_is : a ≡ table_address w.image at + 4 * j =
+      places (loaded_word w.image (at + 4)) wd1 wd2 (loaded_word w.image (at + 8)) j (get 0 g1 (Gpr 12)) _ _ _ (r1 ∙ x1_is
+      ∙ ap (λ z. 4 * z) ej) c1 c2 r2 refl (ap (loaded_word w.image) (eight at)) tb in
       let ld : loaded t.mem Word a ≡ Some d = ap (loaded t.mem Word) a_is ∙ table_load w t r.same _ _ table in
       let g3 = put g2 (Gpr 12) d in
       let t3 : FlatState = record { file = g3; pc = following t2; mem = t.mem } in
@@ -149,7 +149,8 @@ module _ (w : World) (ok : Fits w) (s : State) (t : FlatState) (r : Related w s 
       let f2 = put_law w s.live s.next _ _ f1 (Gpr 12) Undef x2 ((λ e. omega arith), (λ e. omega arith)) (m x2) in
       let f3 = put_law w s.live s.next _ _ f2 (Gpr 12) Undef d ((λ e. omega arith), (λ e. omega arith)) (m d) in
       let f4 = put_law w s.live s.next _ _ f3 Ctr Undef (get 0 g3 (Gpr 12)) tt (m _) in
-      let once : put (put (put s.file (Gpr 12) Undef) (Gpr 12) Undef) (Gpr 12) Undef ≡ put s.file (Gpr 12) Undef = twice (put s.file (Gpr 12) Undef) ∙ twice s.file in
+      let once : put (put (put s.file (Gpr 12) Undef) (Gpr 12) Undef) (Gpr 12) Undef ≡ put s.file (Gpr 12) Undef =
+      twice (put s.file (Gpr 12) Undef) ∙ twice s.file in
       let f5 = subst (λ z. FilesAgree w s.live s.next (put z Ctr Undef) g4) once f4 in (
         5,
         omega arith,
@@ -163,7 +164,9 @@ module _ (w : World) (ok : Fits w) (s : State) (t : FlatState) (r : Related w s 
             files = f5;
             cells = r.cells;
             same = r.same;
-            place = label_agrees w ok s.live s.next f (slice_index_or labels j 0) _ h.known (subst (λ n. has_label (code_of w.program f) n ≡ true) (sym le) has) (goes ∙ ap (λ n. wrapped (label_address w.image (w.function_at f) (code_of w.program f) n)) (sym le));
+            place = label_agrees w ok s.live s.next f (slice_index_or labels j 0) _ h.known
+                (subst (λ n. has_label (code_of w.program f) n ≡ true) (sym le) has) (goes
+                ∙ ap (λ n. wrapped (label_address w.image (w.function_at f) (code_of w.program f) n)) (sym le));
           },
         ),
       )
@@ -187,7 +190,10 @@ module _ (w : World) (ok : Fits w) (s : State) (t : FlatState) (r : Related w s 
       at (Int j) m = test (nat_lt j (length labels)) refl
         where
           test : (b : Bool) → nat_lt j (length labels) ≡ b
-              → Goes w t (if b then asm.Went (record s { file = put (put s.file (Gpr 12) Undef) Ctr Undef; place = at_label w.program f (slice_index_or labels j 0) }) else asm.Undefined whys.Table)
+              → Goes w t (if b then asm.Went (record s {
+                file = put (put s.file (Gpr 12) Undef) Ctr Undef;
+                place = at_label w.program f (slice_index_or labels j 0);
+              }) else asm.Undefined whys.Table)
           test true e = table_case j m.shows (ltb-true j (length labels) e) h h.facts.spelt
           test false e = tt
       at Undef m = tt

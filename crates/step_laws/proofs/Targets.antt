@@ -1,5 +1,6 @@
 -- The places that control goes to.
-use Rattle.std.proofs.Common.{◌≡◌, ℕ, ◌+◌, ◌<◌, ◌≤◌, Bool, true, false, ◌&&◌, List, [], ◌∷◌, length, Option, Some, None, refl, sym, ap, ◌∙◌, subst, arith}
+use Rattle.std.proofs.Common.{◌≡◌, ℕ, ◌+◌, ◌<◌, ◌≤◌, Bool, true, false, ◌&&◌, List, [], ◌∷◌, length, Option, Some, None, refl, sym, ap}
+use Rattle.std.proofs.Common.{◌∙◌, subst, arith}
 use Rattle.std.specs.Prelude.{◌==◌, is_some, unwrap_or, slice_get}
 use Rattle.std.specs.List.{list_all}
 use Rattle.std.specs.Option.{option_map_or}
@@ -45,7 +46,8 @@ pub place_is : (p : Linked) (f label : ℕ) → place_of_label p f label ≡ unw
 place_is p f label = at (slice_get p.routines f)
   where
     at : (o : Option Routine)
-        → option_map_or (λ r. unwrap_or (label_place r.code label) 0) o 0 ≡ unwrap_or (label_place (option_map_or (λ r. r.code) o []) label) 0
+        → option_map_or (λ r. unwrap_or (label_place r.code label) 0) o 0
+        ≡ unwrap_or (label_place (option_map_or (λ r. r.code) o []) label) 0
     at None = refl
     at (Some r) = refl
 

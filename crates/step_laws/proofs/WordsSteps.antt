@@ -1,5 +1,6 @@
 -- The step law of a whole word put into a register.
-use Rattle.std.proofs.Common.{◌≡◌, ℕ, zero, suc, ◌+◌, ◌*◌, ◌/◌, ◌%◌, ◌<◌, ◌≤◌, Bool, true, false, List, [], ◌∷◌, Option, Some, None, ◌&&◌, refl, sym, ap, ◌∙◌, subst, arith, if◌then◌else◌, get_or-set_same, length-set}
+use Rattle.std.proofs.Common.{◌≡◌, ℕ, zero, suc, ◌+◌, ◌*◌, ◌/◌, ◌%◌, ◌<◌, ◌≤◌, Bool, true, false, List, [], ◌∷◌, Option, Some, None, ◌&&◌}
+use Rattle.std.proofs.Common.{refl, sym, ap, ◌∙◌, subst, arith, if◌then◌else◌, get_or-set_same, length-set}
 use Rattle.std.proofs.lemmas.Grind.{common_steps}
 use Rattle.std.proofs.lemmas.Int.{of_z-to_z}
 use Rattle.std.proofs.lemmas.Bool.{eqb-true, ltb-true, and_parts}
@@ -84,27 +85,35 @@ module _ (w : World) (ok : Fits w) (s : State) (t : FlatState) (r : Related w s 
     where
       files : (x : ℕ) → x ≡ wrapped n → FilesAgree w s.live s.next (put s.file (Gpr d) (Int (wrapped n))) (put t.file (Gpr d) x)
       files x e =
-          put_law w s.live s.next s.file t.file r.files (Gpr d) (Int (wrapped n)) x (free_of (Gpr d) h.facts.shaped.free) (int_means w s.live s.next _ _ e)
+          put_law w s.live s.next s.file t.file r.files (Gpr d) (Int (wrapped n)) x (free_of (Gpr d) h.facts.shaped.free)
+          (int_means w s.live s.next _ _ e)
 
       at : (b : Bool) → is_s16 (signed_word (wrapped n)) ≡ b
-          → Spelts w (place_at w f i) (if b then closed (addi d 0 (signed_word (wrapped n))) ∷ [] else if lo (wrapped n) == 0 then closed (addis d 0 (short (hi (wrapped n)))) ∷ [] else closed (addis d 0 (short (hi (wrapped n)))) ∷ closed (ori d d (lo (wrapped n))) ∷ [])
+          → Spelts w (place_at w f i) (if b then closed (addi d 0 (signed_word (wrapped n))) ∷ [] else if lo (wrapped n) == 0 then closed
+          (addis d 0 (short (hi (wrapped n)))) ∷ [] else closed (addis d 0 (short (hi (wrapped n)))) ∷ closed
+          (ori d d (lo (wrapped n))) ∷ [])
           → instr_length (instrs.Imm d n) (loaded_word w.image (place_at w f i)) ≡ (if b then 1 else if lo (wrapped n) == 0 then 1 else 2)
           → Goes w t (asm.Went (gone s f i (put s.file (Gpr d) (Int (wrapped n)))))
       at true e sp l =
           let back : cast_unsigned w32 (signed_word (wrapped n)) ≡ wrapped n = of_z-to_z w32 (wrapped n) (omega arith) in
           let x : wrapped (0 + cast_unsigned w32 (signed_word (wrapped n))) ≡ wrapped n = ap (λ z. wrapped (0 + z)) back ∙ omega arith in
-          moves_on w s t r f i (instrs.Imm d n) _ _ (put t.file (Gpr d) (wrapped n)) h sp.0.code l (ap (λ g. on t g t.mem) (set_file t.file d _ (wrapped n) x)) (files _ refl) (put_spares s.file (Gpr d) _ (spare_of (Gpr d) h.facts.shaped.free))
+          moves_on w s t r f i (instrs.Imm d n) _ _ (put t.file (Gpr d) (wrapped n)) h sp.0.code l
+          (ap (λ g. on t g t.mem) (set_file t.file d _ (wrapped n) x)) (files _ refl)
+          (put_spares s.file (Gpr d) _ (spare_of (Gpr d) h.facts.shaped.free))
       at false e sp l = two (lo (wrapped n) == 0) refl sp l
         where
           two : (b : Bool) → (lo (wrapped n) == 0) ≡ b
-              → Spelts w (place_at w f i) (if b then closed (addis d 0 (short (hi (wrapped n)))) ∷ [] else closed (addis d 0 (short (hi (wrapped n)))) ∷ closed (ori d d (lo (wrapped n))) ∷ [])
+              → Spelts w (place_at w f i) (if b then closed (addis d 0 (short (hi (wrapped n)))) ∷ [] else closed
+              (addis d 0 (short (hi (wrapped n)))) ∷ closed (ori d d (lo (wrapped n))) ∷ [])
               → instr_length (instrs.Imm d n) (loaded_word w.image (place_at w f i)) ≡ (if b then 1 else 2)
               → Goes w t (asm.Went (gone s f i (put s.file (Gpr d) (Int (wrapped n)))))
           two true q sp l =
               let z : lo (wrapped n) ≡ 0 = eqb-true (lo (wrapped n)) 0 q in
               let x = wrapped (hi (wrapped n) * 65536) in
               let xe : x ≡ wrapped n = omega arith in
-              moves_on w s t r f i (instrs.Imm d n) _ _ (put t.file (Gpr d) x) h sp.0.code l (ap (λ g. on t g t.mem) (set_file t.file d _ x (high (wrapped n) (omega arith)))) (files x xe) (put_spares s.file (Gpr d) _ (spare_of (Gpr d) h.facts.shaped.free))
+              moves_on w s t r f i (instrs.Imm d n) _ _ (put t.file (Gpr d) x) h sp.0.code l
+              (ap (λ g. on t g t.mem) (set_file t.file d _ x (high (wrapped n) (omega arith)))) (files x xe)
+              (put_spares s.file (Gpr d) _ (spare_of (Gpr d) h.facts.shaped.free))
           two false q sp l = λ fits.
               let x1 = wrapped (hi (wrapped n) * 65536) in
               let g1 = put t.file (Gpr d) x1 in
@@ -113,7 +122,8 @@ module _ (w : World) (ok : Fits w) (s : State) (t : FlatState) (r : Related w s 
               let hh = h.here in
               let t1 : FlatState = record { file = g1; pc = following t; mem = t.mem } in
               let p1 : t1.pc ≡ place_at w f i + 4 = omega arith in
-              let e1 = then_is w t (fetch_law w t _ _ sp.0.code r.same h.here) (ap (λ g. on t g t.mem) (set_file t.file d _ x1 (high (wrapped n) (omega arith)))) in
+              let e1 = then_is w t (fetch_law w t _ _ sp.0.code r.same h.here)
+              (ap (λ g. on t g t.mem) (set_file t.file d _ x1 (high (wrapped n) (omega arith)))) in
               let x2 = bit_or (get 0 g1 (Gpr d)) (lo (wrapped n)) in
               let g2 = put g1 (Gpr d) x2 in
               let t2 : FlatState = record { file = g2; pc = following t1; mem = t.mem } in
@@ -121,7 +131,8 @@ module _ (w : World) (ok : Fits w) (s : State) (t : FlatState) (r : Related w s 
               let free = free_of (Gpr d) h.facts.shaped.free in
               let f1 = put_law w s.live s.next s.file t.file r.files (Gpr d) Undef x1 free (record { named = tt; shows = tt }) in
               let f2 = put_law w s.live s.next _ _ f1 (Gpr d) (Int (wrapped n)) x2 free (or_means g1 refl) in
-              let once : put (put s.file (Gpr d) Undef) (Gpr d) (Int (wrapped n)) ≡ put s.file (Gpr d) (Int (wrapped n)) = ap (λ l. record s.file { gprs = l }) (set-set s.file.gprs d Undef (Int (wrapped n))) in (
+              let once : put (put s.file (Gpr d) Undef) (Gpr d) (Int (wrapped n)) ≡ put s.file (Gpr d) (Int (wrapped n)) =
+              ap (λ l. record s.file { gprs = l }) (set-set s.file.gprs d Undef (Int (wrapped n))) in (
                 2,
                 omega arith,
                 (
@@ -147,5 +158,8 @@ module _ (w : World) (ok : Fits w) (s : State) (t : FlatState) (r : Related w s 
               or_means g e3 =
                   let wide = r.files.wide in
                   let lt = small in
-                  let got : get 0 g (Gpr d) ≡ wrapped (hi (wrapped n) * 65536) = ap (λ (y : File ℕ). get 0 y (Gpr d)) e3 ∙ get_or-set_same t.file.gprs d (wrapped (hi (wrapped n) * 65536)) 0 (omega arith) in
-                  int_means w s.live s.next _ _ (ap (λ y. bit_or y (lo (wrapped n))) got ∙ or_halves (hi (wrapped n)) (lo (wrapped n)) (omega arith) (omega arith) ∙ joins (wrapped n))
+                  let got : get 0 g (Gpr d) ≡ wrapped (hi (wrapped n) * 65536) =
+                  ap (λ (y : File ℕ). get 0 y (Gpr d)) e3
+                  ∙ get_or-set_same t.file.gprs d (wrapped (hi (wrapped n) * 65536)) 0 (omega arith) in
+                  int_means w s.live s.next _ _ (ap (λ y. bit_or y (lo (wrapped n))) got
+                  ∙ or_halves (hi (wrapped n)) (lo (wrapped n)) (omega arith) (omega arith) ∙ joins (wrapped n))

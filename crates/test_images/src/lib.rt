@@ -1,7 +1,8 @@
-//! Small executables for tests, made from their parts or from lines of text.
+//! Small executables and layouts for tests, made from their parts or from lines of text.
 #![tactic(auto)]
 
 pub mod image;
+pub mod layouts;
 pub mod lines;
 #[cfg(test)]
 mod tests;

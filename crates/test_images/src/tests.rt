@@ -1,4 +1,5 @@
-// An image of two segments and two symbols, against the bytes that another program writes and readelf reads.
+// An image of two segments and two symbols, against the bytes that another program writes and readelf reads. Layouts, by hand.
+use crate::layouts::layout_of;
 use crate::lines::image_of;
 use std::test::Fail;
 
@@ -42,6 +43,47 @@ fn makes_the_image_of_lines(rt: HostRuntime) -> Result<(), Fail> {
     assert_eq!(rt; file.as_slice(), bytes.as_slice());
     for text in &FAULTY {
         assert!(rt; image_of(alloc, *text).is_none(), "{text}");
+    }
+    Ok(())
+}
+
+static LAYOUTS: [(&str, &str); 2] = [
+    (
+        "",
+        r#"{"valex":"layout","version":1,"entry":"main","stop":"0x10000000","stack":["0x20000000","0x20010000"],"r13":"0x10038000","r2":"0x10048000","areas":[],"foreign":[],"pins":[]}"#,
+    ),
+    (
+        "stack 20000000 20000010
+bases 1 2
+area code 10010000 10011000
+
+area sda13 10038000 10038008
+foreign 10020000 10020100
+foreign 10030000 10030008
+pin a.c h 10018000
+pin - g 10018004",
+        r#"{"valex":"layout","version":1,"entry":"main","stop":"0x10000000","stack":["0x20000000","0x20000010"],"r13":"0x1","r2":"0x2","areas":[{"name":"code","range":["0x10010000","0x10011000"],"kind":"code"},{"name":"sda13","range":["0x10038000","0x10038008"],"kind":"sda13"}],"foreign":[["0x10020000","0x10020100"],["0x10030000","0x10030008"]],"pins":[{"unit":"a.c","name":"h","address":"0x10018000"},{"unit":null,"name":"g","address":"0x10018004"}]}"#,
+    ),
+];
+
+static NO_LAYOUTS: [&str; 6] = [
+    "area",
+    "area code 10010000",
+    "foreign 10020000",
+    "pin a.c h",
+    "bases 1",
+    "segment 10010000 5 8",
+];
+
+#[test]
+fn makes_the_layout_of_lines(rt: HostRuntime) -> Result<(), Fail> {
+    let alloc = rt.alloc();
+    for (lines, want) in &LAYOUTS {
+        let text = layout_of(alloc, *lines).ok_or("a layout")?;
+        assert_eq!(rt; text.as_str(), *want);
+    }
+    for lines in &NO_LAYOUTS {
+        assert!(rt; layout_of(alloc, *lines).is_none(), "{lines}");
     }
     Ok(())
 }

@@ -23,6 +23,7 @@ use Rattle.machine_runs.specs.Sums.{read_total}
 use Rattle.machine_runs.specs.Traces.{asm_end, asm_events, asm_seen, asm_trace, flat_events, flat_trace, seen_of, stack_size}
 use Rattle.run_text.specs.Agreement.{agrees, common_events, is_same}
 use Rattle.start_laws.specs.Laws.{IsKnown, FirstStatesRelate, MatchesAreFaithful}
+use Rattle.verdict_laws.specs.Laws.{LongerRunsExtend}
 use Rattle.trace_laws.specs.Laws.{MatchingTracesAgree}
 use Rattle.trace_laws.proofs.SeenEvents.{events_are}
 use Rattle.trace_laws.proofs.Common.{common_prefix}
@@ -65,8 +66,9 @@ same_traces t u a r show events outcome same end begins =
     by (inr (inl e)) = ap (λ o. agrees o (length t.events == length u.events) u.outcome) e
     by (inr (inr e)) = ap (λ o. agrees o (length t.events == length u.events) u.outcome) e
 
-pub matching_traces_agree : LinkedGivesFacts → MatchesGiveFacts → MatchesAreFaithful → FirstStatesRelate → MatchingTracesAgree
-matching_traces_agree linking matching faithful starting g loadable layout linked matches stack long junk wide replies steps =
+pub matching_traces_agree : LinkedGivesFacts → MatchesGiveFacts → MatchesAreFaithful → FirstStatesRelate → LongerRunsExtend
+    → MatchingTracesAgree
+matching_traces_agree linking matching faithful starting longer g loadable layout linked matches stack long junk wide replies steps =
     let bs = addresses g in
     let w = world_of g bs stack in
     let size = stack_size g.layout in
@@ -87,7 +89,7 @@ matching_traces_agree linking matching faithful starting g loadable layout linke
     let same : asm_events show (run c.taken) ≡ flat_events r = events_are g bs stack (run c.taken).events r.events f.events in
     let few : f.steps ≤ IMAGE_STEPS_A_STEP * steps = let a = f.few in let b = c.few in omega arith in
     let reads : read_total (flat_events r) ≤ MOST_TRACE_BYTES = subst (λ es. read_total es ≤ MOST_TRACE_BYTES) same c.reads in
-    let b = trace_begins g.layout.stop (outside g.program bs) (flat.first_state g bs junk stack) replies f.steps
+    let b = trace_begins longer g.layout.stop (outside g.program bs) (flat.first_state g bs junk stack) replies f.steps
     (IMAGE_STEPS_A_STEP * steps) few reads in
     same_traces (asm_trace g bs run steps) (flat_trace (image_run g bs junk stack replies) (IMAGE_STEPS_A_STEP * steps)) (run c.taken) r
     show

@@ -16,10 +16,10 @@ use Rattle.machine_runs.specs.declared.trace.Outcome.TheVariants.{Stack, Full}
 use Rattle.machine_runs.specs.declared.trace.Seen.{Seen}
 use Rattle.machine_runs.specs.declared.trace.Trace.{Trace}
 use Rattle.machine_runs.specs.Sums.{read_total}
-use Rattle.machine_runs.specs.Traces.{seen_of, least_below, is_past_bytes, is_past_stack, flat_events, flat_passes, flat_trace, whole_flat}
-use Rattle.machine_runs.specs.Traces.{cut_flat, asm_events, asm_end, asm_passes, trace_of, whole_asm, cut_asm}
-use Rattle.trace_laws.proofs.LeastNumbers.{IsLeast, NoneBelow, least_is}
-use Rattle.trace_laws.proofs.LaterRuns.{Later, Ends, later_run}
+use Rattle.machine_runs.specs.Traces.{seen_of, least_below, is_past_bytes, is_past_stack, flat_end, flat_events, flat_passes, flat_trace}
+use Rattle.machine_runs.specs.Traces.{whole_flat, cut_flat, asm_events, asm_end, asm_passes, trace_of, whole_asm, cut_asm}
+use Rattle.machine_runs.proofs.Least.{IsLeast, NoneBelow, least_is}
+use Rattle.verdict_laws.specs.Laws.{Extends, IsOver, LongerRunsExtend}
 use Rattle.trace_laws.proofs.Common.{total_grows}
 
 not_past : (es : List Seen) → is_past_bytes es ≡ false → read_total es ≤ MOST_TRACE_BYTES
@@ -33,7 +33,7 @@ past es h = ltb-true MOST_TRACE_BYTES (read_total es) h
 -- the whole trace of a run that has ended
 abbrev pub EndsTrace : FlatOutcome → FlatRun → Trace → Type 0
 EndsTrace flat.Going r t = Unit {0}
-EndsTrace o r t = (t.events ≡ flat_events r) × (t.outcome ≡ Rattle.machine_runs.specs.Traces.flat_end o)
+EndsTrace o r t = (t.events ≡ flat_events r) × (t.outcome ≡ flat_end o)
 
 -- a trace that begins with the events of a run, and is that of the run where it has ended
 pub record Begins (r : FlatRun) (t : Trace) : Type 0 where
@@ -41,55 +41,59 @@ pub record Begins (r : FlatRun) (t : Trace) : Type 0 where
   pub events : flat_events r ++ adds ≡ t.events
   pub ends : EndsTrace r.outcome r t
 
-module _ (stop : ℕ) (outside : ℕ → Option External) (s : FlatState) (rs : List Reply) where
+module _ (longer : LongerRunsExtend) (stop : ℕ) (outside : ℕ → Option External) (s : FlatState) (rs : List Reply) where
   abbrev run : ℕ → FlatRun
   run m = flat_run stop outside m s rs
 
+  extends : (m n : ℕ) → m ≤ n → Extends (run m) (run n)
+  extends m n h =
+      let z : m + (n - m) ≡ n = omega arith in
+      subst (λ k. Extends (run m) (run k)) z (longer stop outside m (n - m) s rs)
+
+  -- what the longer run shows
+  adds_up : (m n : ℕ) (x : Extends (run m) (run n)) → flat_events (run m) ++ map seen_of x.more ≡ flat_events (run n)
+  adds_up m n x = sym (map-append seen_of (run m).events x.more) ∙ ap (map seen_of) (sym x.events)
+
   whole_begins : (m n : ℕ) → m ≤ n → Begins (run m) (whole_flat (run n))
   whole_begins m n h =
-      let l = later_run stop outside m n s rs h in
-      record {
-        adds = map seen_of l.adds;
-        events = sym (map-append seen_of (run m).events l.adds) ∙ ap (map seen_of) l.events;
-        ends = by (run m).outcome l.ends;
-      }
+      let x = extends m n h in
+      record { adds = map seen_of x.more; events = adds_up m n x; ends = by (run m).outcome refl x.over }
     where
-      by : (o : FlatOutcome) → Ends o (run m) (run n) → EndsTrace o (run m) (whole_flat (run n))
-      by flat.Going e = tt
-      by (flat.Ended w) e = (ap (map seen_of) (sym e.1), ap Rattle.machine_runs.specs.Traces.flat_end e.0)
-      by flat.Starved e = (ap (map seen_of) (sym e.1), ap Rattle.machine_runs.specs.Traces.flat_end e.0)
-      by (flat.Faulted k) e = (ap (map seen_of) (sym e.1), ap Rattle.machine_runs.specs.Traces.flat_end e.0)
+      whole : (o : FlatOutcome) → (run m).outcome ≡ o → run n ≡ run m →
+          ((whole_flat (run n)).events ≡ flat_events (run m)) × ((whole_flat (run n)).outcome ≡ flat_end o)
+      whole o e q = (ap flat_events q, ap (λ (r : FlatRun). flat_end r.outcome) q ∙ ap flat_end e)
+
+      by : (o : FlatOutcome) → (run m).outcome ≡ o → (IsOver o → run n ≡ run m) → EndsTrace o (run m) (whole_flat (run n))
+      by flat.Going e over = tt
+      by (flat.Ended w) e over = whole (flat.Ended w) e (over tt)
+      by flat.Starved e over = whole flat.Starved e (over tt)
+      by (flat.Faulted k) e over = whole (flat.Faulted k) e (over tt)
 
   -- the bytes of more steps are no fewer
   grows : (m n : ℕ) → m ≤ n → read_total (flat_events (run m)) ≤ read_total (flat_events (run n))
   grows m n h =
-      let l = later_run stop outside m n s rs h in
-      subst (λ es. read_total (flat_events (run m)) ≤ read_total es)
-      (sym (map-append seen_of (run m).events l.adds) ∙ ap (map seen_of) l.events)
-      (total_grows (flat_events (run m)) (map seen_of l.adds))
+      let x = extends m n h in
+      subst (λ es. read_total (flat_events (run m)) ≤ read_total es) (adds_up m n x)
+      (total_grows (flat_events (run m)) (map seen_of x.more))
 
   cut_begins : (m k : ℕ) → m ≤ k → read_total (flat_events (run m)) ≤ MOST_TRACE_BYTES
       → MOST_TRACE_BYTES < read_total (flat_events (run (suc k))) →
       Begins (run m) (cut_flat (run k))
   cut_begins m k h few many =
-      let l = later_run stop outside m k s rs h in
-      let n = later_run stop outside m (suc k) s rs (omega arith) in
-      record {
-        adds = map seen_of l.adds;
-        events = sym (map-append seen_of (run m).events l.adds) ∙ ap (map seen_of) l.events;
-        ends = by (run m).outcome n.ends;
-      }
+      let x = extends m k h in
+      let y = extends m (suc k) (omega arith) in
+      record { adds = map seen_of x.more; events = adds_up m k x; ends = by (run m).outcome y.over }
     where
       -- a run that has ended reads no more
-      more : (run m).events ≡ (run (suc k)).events → ⊥
-      more e = let q : read_total (flat_events (run m)) ≡ read_total (flat_events (run (suc k))) =
-          ap (λ es. read_total (map seen_of es)) e in omega arith
+      more : run (suc k) ≡ run m → ⊥
+      more e = let q : read_total (flat_events (run (suc k))) ≡ read_total (flat_events (run m)) =
+          ap (λ r. read_total (flat_events r)) e in omega arith
 
-      by : (o : FlatOutcome) → Ends o (run m) (run (suc k)) → EndsTrace o (run m) (cut_flat (run k))
-      by flat.Going e = tt
-      by (flat.Ended w) e = absurd (more e.1)
-      by flat.Starved e = absurd (more e.1)
-      by (flat.Faulted f) e = absurd (more e.1)
+      by : (o : FlatOutcome) → (IsOver o → run (suc k) ≡ run m) → EndsTrace o (run m) (cut_flat (run k))
+      by flat.Going over = tt
+      by (flat.Ended w) over = absurd (more (over tt))
+      by flat.Starved over = absurd (more (over tt))
+      by (flat.Faulted f) over = absurd (more (over tt))
 
   pub trace_begins : (m n : ℕ) → m ≤ n → read_total (flat_events (run m)) ≤ MOST_TRACE_BYTES → Begins (run m) (flat_trace run n)
   trace_begins m n h few = by (least_below (flat_passes run) n) refl (least_is (flat_passes run) n)

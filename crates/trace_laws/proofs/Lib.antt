@@ -1,5 +1,3 @@
-mod LeastNumbers
-mod LaterRuns
 mod Common
 mod SeenEvents
 mod Cuts

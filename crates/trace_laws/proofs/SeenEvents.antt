@@ -23,10 +23,6 @@ module _ (g : Inputs) (bs stack : List ℕ) where
   words_are live [] [] h = refl
   words_are live (v ∷ vs) (x ∷ xs) h = ap₂ (λ y ys. y ∷ ys) (word live v x h.0) (words_are live vs xs h.1)
     where
-      homes_same : (live : List Live) (b : ℕ) →
-          Rattle.machine_model.specs.Worlds.home (world_of g bs []) live b ≡ Rattle.machine_model.specs.Worlds.home W live b
-      homes_same live b = refl
-
       word : (live : List Live) (v : Val) (x : ℕ) → shown W live v ≡ Some x → shown_word (world_of g bs []) live v ≡ x
       word live v x e = ap (λ o. unwrap_or o 0) e
   words_are live [] (x ∷ xs) h = absurd h

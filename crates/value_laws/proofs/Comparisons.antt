@@ -1,5 +1,6 @@
 -- An unsigned comparison of values stands for that of the words.
-use Rattle.std.proofs.Common.{◌≡◌, ℕ, zero, suc, ◌+◌, ◌<◌, Bool, true, false, ◌&&◌, nat_lt, nat_le, List, length, Option, Some, None, refl, sym, ap, ◌∙◌, subst, arith, ⊎_elim, if◌then◌else◌}
+use Rattle.std.proofs.Common.{◌≡◌, ℕ, zero, suc, ◌+◌, ◌<◌, Bool, true, false, ◌&&◌, nat_lt, nat_le, List, length, Option, Some, None, refl}
+use Rattle.std.proofs.Common.{sym, ap, ◌∙◌, subst, arith, ⊎_elim, if◌then◌else◌}
 use Rattle.std.specs.Prelude.{◌==◌, option_map, find}
 use Rattle.std.proofs.lemmas.Bool.{eqb-true, eqb-false, eq-eqb, ne_eqb, and_parts, cases_eq, leb-true, ltb-true, lt-ltb, le-ltb, cases_lt}
 use Rattle.isa_model.specs.Word.{wrapped, carry_bit}
@@ -42,11 +43,13 @@ module _ (w : World) (ok : Fits w) (live : List Live) (next : ℕ) (laid : Laid 
 
   lt_shift : (a o p : ℕ) → nat_lt (a + o) (a + p) ≡ nat_lt o p
   lt_shift a o p =
-      ⊎_elim (λ h. lt-ltb (a + o) (a + p) (omega arith) ∙ sym (lt-ltb o p h)) (λ h. le-ltb (a + o) (a + p) (omega arith) ∙ sym (le-ltb o p h)) (cases_lt o p)
+      ⊎_elim (λ h. lt-ltb (a + o) (a + p) (omega arith) ∙ sym (lt-ltb o p h)) (λ h. le-ltb (a + o) (a + p) (omega arith)
+      ∙ sym (le-ltb o p h)) (cases_lt o p)
 
   eq_shift : (a o p : ℕ) → (a + o == a + p) ≡ (o == p)
   eq_shift a o p =
-      ⊎_elim (λ h. eq-eqb (a + o) (a + p) (omega arith) ∙ sym (eq-eqb o p h)) (λ h. ne_eqb (a + o) (a + p) (λ e. h (omega arith)) ∙ sym (ne_eqb o p h)) (cases_eq o p)
+      ⊎_elim (λ h. eq-eqb (a + o) (a + p) (omega arith) ∙ sym (eq-eqb o p h)) (λ h. ne_eqb (a + o) (a + p) (λ e. h (omega arith))
+      ∙ sym (ne_eqb o p h)) (cases_eq o p)
 
   -- the word of a pointer into a live block
   record Word (b o x : ℕ) : Type 0 where
@@ -78,7 +81,8 @@ module _ (w : World) (ok : Fits w) (live : List Live) (next : ℕ) (laid : Laid 
       at (Some k) l = let q = leb-true (o + 1) (length k.cells) l in Rattle.std.proofs.lemmas.Bool.le-leb o (length k.cells) (omega arith)
 
   inside_of : (b o : ℕ) (k : Live) → is_inside live b o ≡ true → find (has b) live ≡ Some k → o < length k.cells
-  inside_of b o k h e = let q : reaches (Some k) (o + 1) ≡ true = subst (λ z. reaches z (o + 1) ≡ true) e h in let l = leb-true (o + 1) (length k.cells) q in omega arith
+  inside_of b o k h e = let q : reaches (Some k) (o + 1) ≡ true = subst (λ z. reaches z (o + 1) ≡ true) e h in
+      let l = leb-true (o + 1) (length k.cells) q in omega arith
 
   above_zero : (v : Val) (x : ℕ) → is_place live v ≡ true → Means w live next v x → 0 < x
   above_zero (Ptr b o) x h m = (live_word b o x h m).some
@@ -96,7 +100,8 @@ module _ (w : World) (ok : Fits w) (live : List Live) (next : ℕ) (laid : Laid 
   zero_right v n x y m e = at (n == 0 && is_place live v) refl
     where
       at : (b : Bool) → (n == 0 && is_place live v) ≡ b → Compares (if b then of_words 1 0 else unknown) x y
-      at true h = let p = and_parts (n == 0) (is_place live v) h in let z = eqb-true n 0 p.0 in let q = above_zero v x p.1 m in greater_law x y (omega arith)
+      at true h = let p = and_parts (n == 0) (is_place live v) h in let z = eqb-true n 0 p.0 in let q = above_zero v x p.1 m in
+          greater_law x y (omega arith)
       at false h = unknown_law x y
 
   zero_left : (v : Val) (n x y : ℕ) → Means w live next v y → x ≡ n
@@ -104,7 +109,8 @@ module _ (w : World) (ok : Fits w) (live : List Live) (next : ℕ) (laid : Laid 
   zero_left v n x y m e = at (n == 0 && is_place live v) refl
     where
       at : (b : Bool) → (n == 0 && is_place live v) ≡ b → Compares (if b then of_words 0 1 else unknown) x y
-      at true h = let p = and_parts (n == 0) (is_place live v) h in let z = eqb-true n 0 p.0 in let q = above_zero v y p.1 m in less_law x y (omega arith)
+      at true h = let p = and_parts (n == 0) (is_place live v) h in let z = eqb-true n 0 p.0 in let q = above_zero v y p.1 m in
+          less_law x y (omega arith)
       at false h = unknown_law x y
 
   pointers : (b o c p x y : ℕ) → Means w live next (Ptr b o) x → Means w live next (Ptr c p) y
@@ -112,7 +118,8 @@ module _ (w : World) (ok : Fits w) (live : List Live) (next : ℕ) (laid : Laid 
   pointers b o c p x y m k = at (b == c) refl
     where
       at : (t : Bool) → (b == c) ≡ t
-          → Compares (if t then (if is_valid live b o && is_valid live b p then of_words o p else unknown) else (if is_inside live b o && is_inside live c p then unequal else unknown)) x y
+          → Compares (if t then (if is_valid live b o && is_valid live b p then of_words o p else unknown) else
+          (if is_inside live b o && is_inside live c p then unequal else unknown)) x y
       at true e = one (is_valid live b o && is_valid live b p) refl
         where
           one : (t : Bool) → (is_valid live b o && is_valid live b p) ≡ t → Compares (if t then of_words o p else unknown) x y
@@ -134,7 +141,8 @@ module _ (w : World) (ok : Fits w) (live : List Live) (next : ℕ) (laid : Laid 
               let l = live_word b o x (valid_of b o v.0) m in
               let r = live_word c p y (valid_of c p v.1) k in
               let x1 = l.is in let y1 = r.is in
-              unequal_law x y (λ e1. laid.apart b c l.at r.at o p l.block r.block l.lives r.lives (eqb-false b c e) (inside_of b o l.block v.0 l.lives.block) (inside_of c p r.block v.1 r.lives.block) (omega arith))
+              unequal_law x y (λ e1. laid.apart b c l.at r.at o p l.block r.block l.lives r.lives (eqb-false b c e)
+              (inside_of b o l.block v.0 l.lives.block) (inside_of c p r.block v.1 r.lives.block) (omega arith))
           two false h = unknown_law x y
 
   codes : (f i g j x y : ℕ) → Means w live next (Code f i) x → Means w live next (Code g j) y
@@ -167,7 +175,8 @@ module _ (w : World) (ok : Fits w) (live : List Live) (next : ℕ) (laid : Laid 
           let q = and_parts (o == 0 && p == 0) (f == g) h in
           let r = and_parts (o == 0) (p == 0) q.0 in
           let e1 = eqb-true o 0 r.0 in let e2 = eqb-true p 0 r.1 in
-          same_law x y (m.shows ∙ ap (λ z. wrapped (w.address z + o)) (eqb-true f g q.1) ∙ ap (λ z. wrapped (w.address g + z)) (e1 ∙ sym e2) ∙ sym k.shows)
+          same_law x y (m.shows ∙ ap (λ z. wrapped (w.address z + o)) (eqb-true f g q.1)
+          ∙ ap (λ z. wrapped (w.address g + z)) (e1 ∙ sym e2) ∙ sym k.shows)
       at false h = unknown_law x y
 
   pub compare_law : (u v : Val) (x y : ℕ) → Means w live next u x → Means w live next v y → Compares (compared live u v) x y

@@ -46,7 +46,8 @@ homes_agree w (k ∷ ks) b = at (k.number == b) refl (homes_agree w ks b)
         same = eqb-true k.number b q
 
         here : (t : Bool) → nat_lt k.number (variables_in w) ≡ t → Some (base w (k ∷ ks))
-            ≡ Some (home_address w (if nat_lt b (variables_in w) then homes.Variable b else homes.Frame (stacks.frame_cells (variables_in w) (k ∷ ks))))
+            ≡ Some (home_address w (if nat_lt b (variables_in w) then homes.Variable b else homes.Frame
+            (stacks.frame_cells (variables_in w) (k ∷ ks))))
         here true e = rw (sym same, e) refl
         here false e = rw (sym same, e) refl
     at false q r = rw q r

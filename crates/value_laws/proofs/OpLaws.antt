@@ -1,5 +1,6 @@
 -- Each operation on values stands for that on words.
-use Rattle.std.proofs.Common.{◌≡◌, ℕ, ◌+◌, ◌-◌, Bool, true, false, ◌&&◌, nat_lt, List, Option, Some, None, refl, sym, ap, ap₂, ◌∙◌, subst, arith, if◌then◌else◌}
+use Rattle.std.proofs.Common.{◌≡◌, ℕ, ◌+◌, ◌-◌, Bool, true, false, ◌&&◌, nat_lt, List, Option, Some, None, refl, sym, ap, ap₂, ◌∙◌, subst}
+use Rattle.std.proofs.Common.{arith, if◌then◌else◌}
 use Rattle.std.specs.Prelude.{◌==◌, option_map, find, is_some}
 use Rattle.std.proofs.lemmas.Bool.{eqb-true, and_parts}
 use Rattle.isa_model.specs.Word.{wrapped}
@@ -14,7 +15,8 @@ use Rattle.asm_mem.specs.Comparison.{less, distance, difference_of, is_valid, re
 use Rattle.asm_values.specs.declared.operands.OperandValue.{OperandValue}
 use Rattle.asm_values.specs.declared.operands.OperandValue.TheVariants as operand
 use Rattle.asm_values.specs.declared.operands.ValueResults.{ValueResults}
-use Rattle.asm_values.specs.Operands.{sum_args, value_in, word_in, word_values, only, difference_args, compare_args, address_results, on_words, value_results}
+use Rattle.asm_values.specs.Operands.{sum_args, value_in, word_in, word_values, only, difference_args, compare_args, address_results}
+use Rattle.asm_values.specs.Operands.{on_words, value_results}
 use Rattle.machine_model.specs.Worlds.{World, home}
 use Rattle.machine_model.specs.Fits.{Fits}
 use Rattle.machine_model.specs.Relation.{Shows, Means, Laid}
@@ -43,10 +45,12 @@ module _ (w : World) (ok : Fits w) (live : List Live) (next : ℕ) (laid : Laid 
   ptr_less : (h : Option ℕ) (o n y : ℕ) → Shows (option_map (λ a. wrapped (a + o)) h) y
       → Shows (option_map (λ a. wrapped (a + less o n)) h) (wrapped (complement n + y + 1))
   ptr_less None o n y e = tt
-  ptr_less (Some a) o n y e = let c = complement n in let q : wrapped (c + wrapped (a + o) + 1) ≡ wrapped (a + wrapped (c + o + 1)) = omega arith in rw e q
+  ptr_less (Some a) o n y e = let c = complement n in let q : wrapped (c + wrapped (a + o) + 1) ≡ wrapped (a + wrapped (c + o + 1)) =
+      omega arith in rw e q
 
   ext_less : (a o n y : ℕ) → y ≡ wrapped (a + o) → wrapped (complement n + y + 1) ≡ wrapped (a + less o n)
-  ext_less a o n y e = let c = complement n in let q : wrapped (c + wrapped (a + o) + 1) ≡ wrapped (a + wrapped (c + o + 1)) = omega arith in rw e q
+  ext_less a o n y e = let c = complement n in let q : wrapped (c + wrapped (a + o) + 1) ≡ wrapped (a + wrapped (c + o + 1)) =
+      omega arith in rw e q
 
   apart_law : (a o p x y : ℕ) → x ≡ wrapped (a + o) → y ≡ wrapped (a + p) → wrapped (complement x + y + 1) ≡ distance o p
   apart_law a o p x y e f = omega arith
@@ -54,8 +58,15 @@ module _ (w : World) (ok : Fits w) (live : List Live) (next : ℕ) (laid : Laid 
   pub difference_law : (u v : Val) (x y : ℕ) → Means w live next u x → Means w live next v y
       → Means w live next (difference_of live u v) (wrapped (complement x + y + 1))
   difference_law (Int n) (Int p) x y m k = int_means w live next _ _ (ap₂ (λ a b. wrapped (complement a + b + 1)) m.shows k.shows)
-  difference_law (Int n) (Ptr b o) x y m k = record { named = k.named; shows = subst (λ z. Shows (option_map (λ a. wrapped (a + less o n)) (home w live b)) (wrapped (complement z + y + 1))) (sym m.shows) (ptr_less (home w live b) o n y k.shows) }
-  difference_law (Int n) (Ext b o) x y m k = record { named = k.named; shows = ap (λ z. wrapped (complement z + y + 1)) m.shows ∙ ext_less (w.address b) o n y k.shows }
+  difference_law (Int n) (Ptr b o) x y m k =
+      record {
+        named = k.named;
+        shows =
+            subst (λ z. Shows (option_map (λ a. wrapped (a + less o n)) (home w live b)) (wrapped (complement z + y + 1))) (sym m.shows)
+            (ptr_less (home w live b) o n y k.shows);
+      }
+  difference_law (Int n) (Ext b o) x y m k =
+      record { named = k.named; shows = ap (λ z. wrapped (complement z + y + 1)) m.shows ∙ ext_less (w.address b) o n y k.shows }
   difference_law (Ptr b o) (Ptr c p) x y m k = at (b == c && is_valid live b 0) refl
     where
       at : (t : Bool) → (b == c && is_valid live b 0) ≡ t

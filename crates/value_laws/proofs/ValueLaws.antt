@@ -1,5 +1,6 @@
 -- Results on values stand for results on words.
-use Rattle.std.proofs.Common.{◌≡◌, ℕ, zero, suc, ◌+◌, ◌*◌, ◌<◌, ◌≤◌, Bool, true, false, ◌&&◌, List, [], ◌∷◌, length, Option, Some, None, refl, sym, ap, ap₂, ◌∙◌, subst, arith, if◌then◌else◌}
+use Rattle.std.proofs.Common.{◌≡◌, ℕ, zero, suc, ◌+◌, ◌*◌, ◌<◌, ◌≤◌, Bool, true, false, ◌&&◌, List, [], ◌∷◌, length, Option, Some, None}
+use Rattle.std.proofs.Common.{refl, sym, ap, ap₂, ◌∙◌, subst, arith, if◌then◌else◌}
 use Rattle.std.specs.Prelude.{◌==◌, ℤ, option_map, find, is_some}
 use Rattle.std.proofs.lemmas.Bool.{eqb-true, and_parts}
 use Rattle.std.specs.Int.{cast_unsigned, w32}
@@ -70,7 +71,8 @@ module _ (w : World) (ok : Fits w) (live : List Live) (next : ℕ) (laid : Laid 
   add_word_law (Int k) n x m = int_means w live next _ _ (ap (λ y. wrapped (y + n)) m.shows)
   add_word_law (Ptr b o) n x m = record { named = m.named; shows = ptr_add (home w live b) o n x m.shows }
   add_word_law (Ext k o) n x m = record { named = m.named; shows = ap (λ y. wrapped (y + n)) m.shows ∙ wrap_right (w.address k) o n }
-  add_word_law (Ha k o p) n x m = record { named = m.named; shows = ap (λ y. wrapped (y + n)) m.shows ∙ wrap_right (ha (address_plus (w.address k) o) * 65536) p n }
+  add_word_law (Ha k o p) n x m =
+      record { named = m.named; shows = ap (λ y. wrapped (y + n)) m.shows ∙ wrap_right (ha (address_plus (w.address k) o) * 65536) p n }
   add_word_law (Code f i) n x m = keep_zero (Code f i) n x (code_below f i x m) m
   add_word_law Stop n x m = keep_zero Stop n x (stop_below x m) m
 
@@ -87,7 +89,11 @@ module _ (w : World) (ok : Fits w) (live : List Live) (next : ℕ) (laid : Laid 
   kind_law (kind.Variable v) a c n x ab h e =
       let g = laid.given in
       let l = h.0 in
-      record { named = omega arith; shows = rw (laid.variables_live v h.0) (e ∙ wrap_right (w.address a) c n ∙ ap (λ z. wrapped (z + wrapped (c + n))) (sym h.1)) }
+      record {
+        named = omega arith;
+        shows = rw (laid.variables_live v h.0) (e ∙ wrap_right (w.address a) c n
+            ∙ ap (λ z. wrapped (z + wrapped (c + n))) (sym h.1));
+      }
   kind_law (kind.External k) a c n x ab h e = record { named = ab; shows = e ∙ wrap_right (w.address a) c n }
   kind_law (kind.Function f) a c n x ab h e = at (wrapped (c + n) == 0) refl
     where
@@ -117,7 +123,8 @@ module _ (w : World) (ok : Fits w) (live : List Live) (next : ℕ) (laid : Laid 
       at : (a b : Bool) → (k == l) ≡ a → same_offset p o ≡ b
           → Means w live next (if a && b then symbol_value w.program.kinds l p n else Undef) (wrapped (x + y))
       at true true q r =
-          let e0 : address_plus (w.address k) p ≡ address_plus (w.address l) o = ap (λ z. address_plus (w.address z) p) (eqb-true k l q) ∙ same_moved (w.address l) p o r in
+          let e0 : address_plus (w.address k) p ≡ address_plus (w.address l) o =
+          ap (λ z. address_plus (w.address z) p) (eqb-true k l q) ∙ same_moved (w.address l) p o r in
           let e1 = ap₂ (λ x y. wrapped (x + y)) m.shows (e ∙ sext16_is (lo (address_plus (w.address l) o))) in
           let e2 = ap (λ z. wrapped (wrapped (ha z * 65536 + n) + spread (lo (address_plus (w.address l) o)))) e0 in
           let e3 = halves (address_plus (w.address l) o) n (omega arith) in
@@ -133,7 +140,8 @@ module _ (w : World) (ok : Fits w) (live : List Live) (next : ℕ) (laid : Laid 
 
   pub high_law : (u : Val) (k : ℕ) (o : ℤ) (x y : ℕ) → Means w live next u x → k < length w.program.kinds
       → y ≡ wrapped (ha (address_plus (w.address k) o) * 65536) → Means w live next (ha_on u k o) (wrapped (x + y))
-  high_law (Int n) k o x y m h e = record { named = h; shows = ap (λ x. wrapped (x + y)) m.shows ∙ high_word (ha (address_plus (w.address k) o)) n y e }
+  high_law (Int n) k o x y m h e =
+      record { named = h; shows = ap (λ x. wrapped (x + y)) m.shows ∙ high_word (ha (address_plus (w.address k) o)) n y e }
   high_law _ k o x y m h e = undef_means w live next _
 
   pub sum_law : (u v : OperandValue) (x y : ℕ) → OperandMeans w live next u x → OperandMeans w live next v y

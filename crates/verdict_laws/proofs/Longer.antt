@@ -24,14 +24,19 @@ module _ (stop : ℕ) (out : ℕ → Option External) where
   extend zero k t rs = record { more = (run (0 + k) t rs).events; events = refl; over = λ o. absurd o }
   extend (suc m) k t rs =
       let z : suc m + k ≡ suc (m + k) = omega arith in
-      subst (λ n. Extends (run (suc m) t rs) (run n t rs)) (sym z) (at (flat_step stop t (out t.pc) (slice_get rs 0)) (λ u us. extend m k u us))
+      subst (λ n. Extends (run (suc m) t rs) (run n t rs)) (sym z)
+      (at (flat_step stop t (out t.pc) (slice_get rs 0)) (λ u us. extend m k u us))
     where
       at : (x : FlatNext) → ((u : FlatState) (us : List Reply) → Extends (run m u us) (run (m + k) u us))
           → Extends (flat_after (run m) rs x) (flat_after (run (m + k)) rs x)
       at (leads.Went u) go = go u rs
       at (leads.Called e u) go =
           let r = go u (drop 1 rs) in
-          record { more = r.more; events = ap (λ es. e ∷ es) r.events; over = λ o. ap (λ (z : FlatRun). record z { events = e ∷ z.events }) (r.over o) }
+          record {
+            more = r.more;
+            events = ap (λ es. e ∷ es) r.events;
+            over = λ o. ap (λ (z : FlatRun). record z { events = e ∷ z.events }) (r.over o);
+          }
       at (leads.Ended n) go = record { more = []; events = refl; over = λ o. refl }
       at leads.Starved go = record { more = []; events = refl; over = λ o. refl }
       at (leads.Faulted kind) go = record { more = []; events = refl; over = λ o. refl }
@@ -64,7 +69,8 @@ faithful_agree g faith stack long junk wide replies n fit =
     let f = faith stack long junk wide replies n fit in
     let few = f.few in
     let z : f.steps + (5 * n - f.steps) ≡ 5 * n = omega arith in
-    let x = extend g.layout.stop (outside g.program (addresses g)) f.steps (5 * n - f.steps) (first_state g (addresses g) junk stack) replies in
+    let x = extend g.layout.stop (outside g.program (addresses g)) f.steps (5 * n - f.steps)
+    (first_state g (addresses g) junk stack) replies in
     agrees (world_of g (addresses g) stack) n f.steps (program_run g.program replies n)
     (image_run g (addresses g) junk stack replies f.steps) (image_run g (addresses g) junk stack replies (5 * n)) f.outcome f.events
     (subst (λ k. Extends (image_run g (addresses g) junk stack replies f.steps) (image_run g (addresses g) junk stack replies k)) z x)

@@ -1,5 +1,6 @@
 -- The declarations of one kind among others: their numbers, and what each of them gives.
-use Rattle.std.proofs.Common.{◌≡◌, ℕ, zero, suc, ◌+◌, ◌<◌, ◌≤◌, Bool, true, false, List, [], ◌∷◌, ◌++◌, length, map, take, Option, Some, None, refl, sym, ap, ◌∙◌, subst, arith, if◌then◌else◌}
+use Rattle.std.proofs.Common.{◌≡◌, ℕ, zero, suc, ◌+◌, ◌<◌, ◌≤◌, Bool, true, false, List, [], ◌∷◌, ◌++◌, length, map, take, Option, Some}
+use Rattle.std.proofs.Common.{None, refl, sym, ap, ◌∙◌, subst, arith, if◌then◌else◌}
 use Rattle.std.specs.Prelude.{slice_get, filter, flat_map}
 use Rattle.std.specs.List.{enumerate_from}
 use Rattle.link_model.specs.Program.{Declaration, Item}
@@ -96,21 +97,28 @@ module _ {X : Type 0} (is_kind : Item → Bool) (pick : Declaration → List X) 
       where
         at : (t : Bool) → is_kind e.item ≡ t
             → (slice_get (numbers (n + 1) es) (before es j) ≡ Some (n + 1 + j)) × (before es j < length (flat_map pick es))
-            → (slice_get (numbers n (e ∷ es)) (before (e ∷ es) (suc j)) ≡ Some (n + suc j)) × (before (e ∷ es) (suc j) < length (flat_map pick (e ∷ es)))
+            → (slice_get (numbers n (e ∷ es)) (before (e ∷ es) (suc j)) ≡ Some (n + suc j))
+            × (before (e ∷ es) (suc j) < length (flat_map pick (e ∷ es)))
         at true t r =
             let z : n + 1 + j ≡ n + suc j = omega arith in
             let more : before (e ∷ es) (suc j) ≡ suc (before es j) = rw t refl in
             let one = picks_one e (each e) t in
             let long = append_long (pick e) (flat_map pick es) in
-            let low = r.1 in
-            (ap (slice_get (numbers n (e ∷ es))) more ∙ ap (λ l. slice_get l (suc (before es j))) (numbers_step n e es ∙ ap (λ t. head t n (numbers (n + 1) es)) t) ∙ r.0 ∙ ap Some z, omega arith)
+            let low = r.1 in (
+              ap (slice_get (numbers n (e ∷ es))) more ∙ ap (λ l. slice_get l (suc (before es j))) (numbers_step n e es
+                  ∙ ap (λ t. head t n (numbers (n + 1) es)) t) ∙ r.0 ∙ ap Some z,
+              omega arith,
+            )
         at false t r =
             let z : n + 1 + j ≡ n + suc j = omega arith in
             let more : before (e ∷ es) (suc j) ≡ before es j = rw t refl in
             let none = picks_none e (each e) t in
             let long = append_long (pick e) (flat_map pick es) in
-            let low = r.1 in
-            (ap (slice_get (numbers n (e ∷ es))) more ∙ ap (λ l. slice_get l (before es j)) (numbers_step n e es ∙ ap (λ t. head t n (numbers (n + 1) es)) t) ∙ r.0 ∙ ap Some z, omega arith)
+            let low = r.1 in (
+              ap (slice_get (numbers n (e ∷ es))) more ∙ ap (λ l. slice_get l (before es j)) (numbers_step n e es
+                  ∙ ap (λ t. head t n (numbers (n + 1) es)) t) ∙ r.0 ∙ ap Some z,
+              omega arith,
+            )
 
   -- numbers rise, so each stands once
   low : (ds : List Declaration) (n a k : ℕ) → slice_get (numbers n ds) a ≡ Some k → n ≤ k
@@ -129,7 +137,8 @@ module _ {X : Type 0} (is_kind : Item → Bool) (pick : Declaration → List X) 
   pub once : (ds : List Declaration) (n a b k : ℕ) → slice_get (numbers n ds) a ≡ Some k → slice_get (numbers n ds) b ≡ Some k → a ≡ b
   once [] n a b k h g = cc
   once (d ∷ ds) n a b k h g =
-      at (is_kind d.item) a b (ap (λ l. slice_get l a) (sym (numbers_step n d ds)) ∙ h) (ap (λ l. slice_get l b) (sym (numbers_step n d ds)) ∙ g) (λ i j p q. once ds (n + 1) i j k p q)
+      at (is_kind d.item) a b (ap (λ l. slice_get l a) (sym (numbers_step n d ds))
+      ∙ h) (ap (λ l. slice_get l b) (sym (numbers_step n d ds)) ∙ g) (λ i j p q. once ds (n + 1) i j k p q)
     where
       at : (t : Bool) (a b : ℕ) → slice_get (head t n (numbers (n + 1) ds)) a ≡ Some k
           → slice_get (head t n (numbers (n + 1) ds)) b ≡ Some k

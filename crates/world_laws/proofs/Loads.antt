@@ -1,5 +1,6 @@
 -- Flat memory as it starts: off the stack it has the image's bytes and flags, and the stack can be stored to.
-use Rattle.std.proofs.Common.{◌≡◌, ℕ, zero, suc, ◌+◌, ◌-◌, ◌*◌, ◌<◌, ◌≤◌, Bool, true, false, ◌&&◌, nat_lt, nat_le, List, length, Option, Some, None, refl, sym, ap, ◌∙◌, subst, arith}
+use Rattle.std.proofs.Common.{◌≡◌, ℕ, zero, suc, ◌+◌, ◌-◌, ◌*◌, ◌<◌, ◌≤◌, Bool, true, false, ◌&&◌, nat_lt, nat_le, List, length, Option}
+use Rattle.std.proofs.Common.{Some, None, refl, sym, ap, ◌∙◌, subst, arith}
 use Rattle.std.specs.Prelude.{is_some, option_map, option_and_then}
 use Rattle.std.specs.Option.{option_map_or}
 use Rattle.isa_model.specs.Word.{wrapped}
@@ -28,7 +29,8 @@ bytes_of : (v : Image) (a n : ℕ) → word_at v a ≡ Some n → Bytes v a n
 bytes_of v a n h = at (byte_at v a) (byte_at v (a + 1)) (byte_at v (a + 2)) (byte_at v (a + 3)) refl refl refl refl h
   where
     at : (p q r s : Option ℕ) → byte_at v a ≡ p → byte_at v (a + 1) ≡ q → byte_at v (a + 2) ≡ r → byte_at v (a + 3) ≡ s
-        → option_and_then (λ x. option_and_then (λ y. option_and_then (λ z. option_map (λ w. 16777216 * x + 65536 * y + 256 * z + w) s) r) q) p ≡ Some n
+        → option_and_then (λ x. option_and_then (λ y. option_and_then
+        (λ z. option_map (λ w. 16777216 * x + 65536 * y + 256 * z + w) s) r) q) p ≡ Some n
         → Bytes v a n
     at (Some x) (Some y) (Some z) (Some w) e0 e1 e2 e3 k =
         let q : 16777216 * x + 65536 * y + 256 * z + w ≡ n = cc in
@@ -98,7 +100,9 @@ module _ (v : Image) (range : Extent) (stack : List ℕ) (long : length stack + 
       let n2 : next (next a) ≡ a + 2 = omega arith in
       let n3 : next (next (next a)) ≡ a + 3 = omega arith in
       let q1 : byte_of M (next a) ≡ p.b1 = subst (λ b. byte_of M b ≡ p.b1) (sym n1) (byte_off (a + 1) p.b1 (h 1 (omega arith)) p.e1) in
-      let q2 : byte_of M (next (next a)) ≡ p.b2 = subst (λ b. byte_of M b ≡ p.b2) (sym n2) (byte_off (a + 2) p.b2 (h 2 (omega arith)) p.e2) in
-      let q3 : byte_of M (next (next (next a))) ≡ p.b3 = subst (λ b. byte_of M b ≡ p.b3) (sym n3) (byte_off (a + 3) p.b3 (h 3 (omega arith)) p.e3) in
+      let q2 : byte_of M (next (next a)) ≡ p.b2 =
+      subst (λ b. byte_of M b ≡ p.b2) (sym n2) (byte_off (a + 2) p.b2 (h 2 (omega arith)) p.e2) in
+      let q3 : byte_of M (next (next (next a))) ≡ p.b3 =
+      subst (λ b. byte_of M b ≡ p.b3) (sym n3) (byte_off (a + 3) p.b3 (h 3 (omega arith)) p.e3) in
       let k = p.is in
       omega arith

@@ -1,5 +1,6 @@
 -- Functions, variables and externals by their numbers, and the keys that they are.
-use Rattle.std.proofs.Common.{◌≡◌, ℕ, zero, suc, ◌+◌, ◌<◌, Bool, true, false, List, [], ◌∷◌, length, map, Option, Some, None, refl, sym, ap, ◌∙◌, subst, arith, if◌then◌else◌}
+use Rattle.std.proofs.Common.{◌≡◌, ℕ, zero, suc, ◌+◌, ◌<◌, Bool, true, false, List, [], ◌∷◌, length, map, Option, Some, None, refl, sym}
+use Rattle.std.proofs.Common.{ap, ◌∙◌, subst, arith, if◌then◌else◌}
 use Rattle.std.specs.Prelude.{slice_get, slice_index_or, is_some, position, option_map, unwrap_or, ◌||◌}
 use Rattle.std.specs.List.{enumerate_from, list_any}
 use Rattle.std.specs.Option.{option_map_or}
@@ -10,7 +11,8 @@ use Rattle.asm_syntax.specs.declared.unit.Variable.{Variable}
 use Rattle.link_model.specs.declared.key.KeyKind.{KeyKind}
 use Rattle.link_model.specs.declared.key.KeyKind.TheVariants as kinds
 use Rattle.link_model.specs.Numbers.{is_function, is_variable, item_variables, item_kind, key_of, number_before, numbers_of, variables}
-use Rattle.link_model.specs.Program.{Declaration, Item, OfFunction, OfVariable, OfExternal, keys, declarations, resolve, is_static_named, is_global_named, defines_global, unit_declares}
+use Rattle.link_model.specs.Program.{Declaration, Item, OfFunction, OfVariable, OfExternal, keys, declarations, resolve, is_static_named}
+use Rattle.link_model.specs.Program.{is_global_named, defines_global, unit_declares}
 use Rattle.asm_values.specs.Operands.{kind_at}
 use Rattle.asm_step.specs.LinkedCode.{Routine}
 use Rattle.asm_machine.specs.Executables.{routine_of, item_routines, routines, key_kind, key_kinds}
@@ -58,7 +60,14 @@ function_is units f r h =
         at (OfFunction x) q =
             let e : item_routines units d.unit (OfFunction x) ≡ r ∷ [] = ap (item_routines units d.unit) (sym q) ∙ picked in
             let s : routine_of units d.unit x ≡ r = cc in
-            record { key = place; unit = d.unit; function = x; is = is ∙ ap (λ i. Some (declaration d.unit i)) q; number = number; routine = sym s }
+            record {
+              key = place;
+              unit = d.unit;
+              function = x;
+              is = is ∙ ap (λ i. Some (declaration d.unit i)) q;
+              number = number;
+              routine = sym s;
+            }
         at (OfVariable x) q = let e : is_function (OfVariable x) ≡ true = ap is_function (sym q) ∙ kind in cc
         at (OfExternal x) q = let e : is_function (OfExternal x) ≡ true = ap is_function (sym q) ∙ kind in cc
 
@@ -101,7 +110,13 @@ variable_is units v x h =
         at (OfVariable y) q =
             let e : item_variables (OfVariable y) ≡ x ∷ [] = ap item_variables (sym q) ∙ picked in
             let s : y ≡ x = cc in
-            record { key = place; unit = d.unit; is = is ∙ ap (λ i. Some (declaration d.unit i)) q ∙ ap (λ z. Some (declaration d.unit (OfVariable z))) s; number = number }
+            record {
+              key = place;
+              unit = d.unit;
+              is = is ∙ ap (λ i. Some (declaration d.unit i)) q
+                  ∙ ap (λ z. Some (declaration d.unit (OfVariable z))) s;
+              number = number;
+            }
         at (OfFunction f) q = let e : is_variable (OfFunction f) ≡ true = ap is_variable (sym q) ∙ kind in cc
         at (OfExternal y) q = let e : is_variable (OfExternal y) ≡ true = ap is_variable (sym q) ∙ kind in cc
 
@@ -122,7 +137,8 @@ unfolding key_kinds
 kind_is units k d h =
     let z : 0 + k ≡ k = omega arith in
     get_or_is (map (key_kind units) (enumerate_from 0 (keys units))) k (item_kind units k d.item) (kinds.External 0)
-    (map_get (key_kind units) (enumerate_from 0 (keys units)) k ∙ ap (option_map (key_kind units)) (numbered_get 0 (keys units) k d h) ∙ ap (λ n. Some (item_kind units n d.item)) z)
+    (map_get (key_kind units) (enumerate_from 0 (keys units)) k ∙ ap (option_map (key_kind units)) (numbered_get 0 (keys units) k d h)
+    ∙ ap (λ n. Some (item_kind units n d.item)) z)
 
 -- the number of a function's key
 pub function_number : (units : List Unit) (k u : ℕ) (f : Function) → slice_get (keys units) k ≡ Some (declaration u (OfFunction f))
@@ -140,7 +156,8 @@ pub variable_number : (units : List Unit) (k u : ℕ) (x : Variable) → slice_g
 unfolding key_of variables
 variable_number units k u x h =
     let z : 0 + k ≡ k = omega arith in
-    let c = counted is_variable (λ (e : Declaration). item_variables e.item) variables_pick (keys units) 0 k (declaration u (OfVariable x)) h refl in
+    let c = counted is_variable (λ (e : Declaration). item_variables e.item) variables_pick (keys units) 0 k
+    (declaration u (OfVariable x)) h refl in
     (c.0 ∙ ap Some z, c.1)
 
 -- a name that means a key
@@ -150,7 +167,8 @@ resolve_below units u n j h =
     at (list_any (is_static_named u n) (declarations units)) (defines_global units n || unit_declares units u n) h
   where
     at : (a b : Bool)
-        → (if a then position (is_static_named u n) (keys units) else if b then position (is_global_named n) (keys units) else None) ≡ Some j
+        → (if a then position (is_static_named u n) (keys units) else if b then position (is_global_named n) (keys units) else None)
+        ≡ Some j
         → j < length (keys units)
     at true b e = position_below (is_static_named u n) (keys units) j e
     at false true e = position_below (is_global_named n) (keys units) j e

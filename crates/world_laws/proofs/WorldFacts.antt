@@ -1,5 +1,6 @@
 -- The facts of a matching image are what the laws of steps need of its world.
-use Rattle.std.proofs.Common.{◌≡◌, ℕ, zero, suc, ◌+◌, ◌*◌, ◌%◌, ◌<◌, ◌≤◌, Bool, true, false, ◌&&◌, List, [], ◌∷◌, length, map, Option, Some, None, refl, sym, ap, ap₂, ◌∙◌, subst, arith, if◌then◌else◌}
+use Rattle.std.proofs.Common.{◌≡◌, ℕ, zero, suc, ◌+◌, ◌*◌, ◌%◌, ◌<◌, ◌≤◌, Bool, true, false, ◌&&◌, List, [], ◌∷◌, length, map, Option}
+use Rattle.std.proofs.Common.{Some, None, refl, sym, ap, ap₂, ◌∙◌, subst, arith, if◌then◌else◌}
 use Rattle.std.specs.Prelude.{◌==◌, slice_get, slice_index_or, find, is_some, option_map, option_and_then, unwrap_or, nat_le, nat_lt}
 use Rattle.std.specs.Option.{option_map_or}
 use Rattle.std.specs.List.{enumerate_from}
@@ -40,16 +41,19 @@ use Rattle.asm_machine.specs.Executables.{key_meant, key_named, routine_of, rout
 use Rattle.ppc_machine.specs.declared.externals.External.{External}
 use Rattle.machine_model.specs.FlatRuns.{stands_at, external_of, outside}
 use Rattle.machine_model.specs.Worlds.{World, world_of, address_of_key, size_in, code_of, place_at, target_in}
-use Rattle.machine_model.specs.Fits.{InStack, InVariable, Data, Stacked, OfVariable as OfData, CodeAt, Spelt, Spelts, TableWord, IsShaped, InstrIs, KeyFits, ExternalIs, Fits}
+use Rattle.machine_model.specs.Fits.{InStack, InVariable, Data, Stacked, OfVariable as OfData, CodeAt, Spelt, Spelts, TableWord, IsShaped}
+use Rattle.machine_model.specs.Fits.{InstrIs, KeyFits, ExternalIs, Fits}
 use Rattle.world_laws.specs.Laws.{WorldsFit}
 use Rattle.world_laws.proofs.Elements.{get_some, get_or_is, get_below, map_get}
 use Rattle.world_laws.proofs.Loads.{word_flagged, mapped_off, run_off, stack_open, word_off}
-use Rattle.world_laws.proofs.Numbers.{FunctionIs, function_is, function_once, function_number, VariableIs, variable_is, variable_number, kinds_long, kind_is, resolve_below}
+use Rattle.world_laws.proofs.Numbers.{FunctionIs, function_is, function_once, function_number, VariableIs, variable_is, variable_number}
+use Rattle.world_laws.proofs.Numbers.{kinds_long, kind_is, resolve_below}
 
 pub holds_of : (a lo hi : ℕ) → lo ≤ a → a < hi → (nat_le lo a && nat_lt a hi) ≡ true
 holds_of a lo hi p q = and_from (nat_le lo a) (nat_lt a hi) (le-leb lo a p) (lt-ltb a hi q)
 
-module _ (g : Inputs) (bs stack : List ℕ) (layout : IsLayout g.layout) (link : LinkedFacts g.program) (fs : Facts g bs) (long : length stack + g.layout.stack.lo ≡ g.layout.stack.hi) where
+module _ (g : Inputs) (bs stack : List ℕ) (layout : IsLayout g.layout) (link : LinkedFacts g.program) (fs : Facts g bs)
+    (long : length stack + g.layout.stack.lo ≡ g.layout.stack.hi) where
   abbrev W : World
   W = world_of g bs stack
 
@@ -72,7 +76,8 @@ module _ (g : Inputs) (bs stack : List ℕ) (layout : IsLayout g.layout) (link :
   function_facts : (f : ℕ) (k : Known f) → FunctionFacts g bs k.of.unit (W.function_at f) (code_of W.program f)
   function_facts f k =
       subst (λ c. FunctionFacts g bs k.of.unit (W.function_at f) c) (sym (code_is f k))
-      (subst (λ a. FunctionFacts g bs k.of.unit a k.of.function.code) (sym (function_at f k)) (fs.functions k.of.key k.of.unit k.of.function k.of.is))
+      (subst (λ a. FunctionFacts g bs k.of.unit a k.of.function.code) (sym (function_at f k))
+      (fs.functions k.of.key k.of.unit k.of.function k.of.is))
 
   -- the key that an instruction names
   key_is : (f i : ℕ) (x : Instr) (k : Known f) → slice_get (code_of W.program f) i ≡ Some x
@@ -114,8 +119,10 @@ module _ (g : Inputs) (bs stack : List ℕ) (layout : IsLayout g.layout) (link :
       labels = first_label (label_address g.image (W.function_at f) (code_of W.program f)) (labels_named x)
 
       by : (o : Option Reference) → instr_symbol x ≡ o
-          → option_map_or (λ (r : Reference). symbol_address g bs k.of.unit r.name) (instr_symbol x) (first_label (label_address g.image (W.function_at f) (code_of W.program f)) (labels_named x))
-          ≡ option_map_or (λ (r : Reference). key_address bs (key_at W.program f i)) (instr_symbol x) (first_label (label_address g.image (W.function_at f) (code_of W.program f)) (labels_named x))
+          → option_map_or (λ (r : Reference). symbol_address g bs k.of.unit r.name) (instr_symbol x)
+          (first_label (label_address g.image (W.function_at f) (code_of W.program f)) (labels_named x))
+          ≡ option_map_or (λ (r : Reference). key_address bs (key_at W.program f i)) (instr_symbol x)
+          (first_label (label_address g.image (W.function_at f) (code_of W.program f)) (labels_named x))
       by None q = rw q refl
       by (Some r) q =
           let m = meant f i x k r e q in
@@ -143,8 +150,12 @@ module _ (g : Inputs) (bs stack : List ℕ) (layout : IsLayout g.layout) (link :
   pub in_variable : (v a : ℕ) (i : InVariable W v a) → facts.InVariable g bs (known_variable v i.is).of.key a
   in_variable v a i =
       let k = known_variable v i.is in
-      let at = k.at in let size = k.size in let lo = i.from in let hi = i.below in
-      (k.of.unit, k.variable, k.of.is, holds_of a (key_address bs k.of.key) (key_address bs k.of.key + variable_size k.variable.init) (omega arith) (omega arith))
+      let at = k.at in let size = k.size in let lo = i.from in let hi = i.below in (
+        k.of.unit,
+        k.variable,
+        k.of.is,
+        holds_of a (key_address bs k.of.key) (key_address bs k.of.key + variable_size k.variable.init) (omega arith) (omega arith),
+      )
 
   off_data : (a : ℕ) → IsOffData g bs a → Data W a → ⊥
   off_data a o (Stacked s) = let q = holds_of a g.layout.stack.lo g.layout.stack.hi s.0 s.1 in let z = o.off_stack in cc
@@ -158,12 +169,14 @@ module _ (g : Inputs) (bs stack : List ℕ) (layout : IsLayout g.layout) (link :
   none_stands a n [] h = refl
   none_stands a n (d ∷ ds) h =
       at (key_address bs n == a) (is_some (item_sig d.item)) refl refl
-      (none_stands a (n + 1) ds (λ j e q r s. let z : n + 1 + j ≡ n + suc j = omega arith in h (suc j) e q (subst (λ m. key_address bs m ≡ a) z r) s))
+      (none_stands a (n + 1) ds (λ j e q r s. let z : n + 1 + j ≡ n + suc j = omega arith in
+      h (suc j) e q (subst (λ m. key_address bs m ≡ a) z r) s))
     where
       at : (p q : Bool) → (key_address bs n == a) ≡ p → is_some (item_sig d.item) ≡ q
           → find (stands_at bs a) (enumerate_from (n + 1) ds) ≡ None
           → (if p && q then Some (n, d) else find (stands_at bs a) (enumerate_from (n + 1) ds)) ≡ None
-      at true true e s rest = let z : n ≡ n + 0 = omega arith in absurd (h 0 d refl (subst (λ m. key_address bs m ≡ a) z (eqb-true (key_address bs n) a e)) s)
+      at true true e s rest = let z : n ≡ n + 0 = omega arith in
+          absurd (h 0 d refl (subst (λ m. key_address bs m ≡ a) z (eqb-true (key_address bs n) a e)) s)
       at true false e s rest = rest
       at false q e s rest = rest
 
@@ -189,13 +202,15 @@ module _ (g : Inputs) (bs stack : List ℕ) (layout : IsLayout g.layout) (link :
       let z : n + 1 + i ≡ n + suc i = omega arith in
       by (key_address bs n == a) (is_some (item_sig x.item)) refl refl (
       one_stands a sig (n + 1) xs i d e (ap (key_address bs) z ∙ at) s
-      (λ j y q r u. let w : n + 1 + j ≡ n + suc j = omega arith in let t = one (suc j) y q (ap (key_address bs) (sym w) ∙ r) u in omega arith)
+      (λ j y q r u. let w : n + 1 + j ≡ n + suc j = omega arith in let t = one (suc j) y q (ap (key_address bs) (sym w) ∙ r) u in
+      omega arith)
       ∙ ap (λ m. Some (called_as m sig)) z
       )
     where
       by : (p q : Bool) → (key_address bs n == a) ≡ p → is_some (item_sig x.item) ≡ q
           → option_and_then external_of (find (stands_at bs a) (enumerate_from (n + 1) xs)) ≡ Some (called_as (n + suc i) sig)
-          → option_and_then external_of (if p && q then Some (n, x) else find (stands_at bs a) (enumerate_from (n + 1) xs)) ≡ Some (called_as (n + suc i) sig)
+          → option_and_then external_of (if p && q then Some (n, x) else find (stands_at bs a) (enumerate_from (n + 1) xs))
+          ≡ Some (called_as (n + suc i) sig)
       by true true p q rest =
           let w : n ≡ n + 0 = omega arith in
           let t = one 0 x refl (ap (key_address bs) (sym w) ∙ eqb-true (key_address bs n) a p) q in
@@ -308,8 +323,14 @@ module _ (g : Inputs) (bs stack : List ℕ) (layout : IsLayout g.layout) (link :
       let shape = (link.shapes k.of.key k.of.unit k.of.function k.of.is).each i x own in
       record {
         next = ff.next i x e;
-        spelt = subst (λ t. Spelts W (place_at W f i) (forms t x (loaded_word g.image (place_at W f i)))) (same_target f i x k e) (code_words (place_at W f i) _ (ff.instructions i x e));
-        shaped = subst (λ c. IsShaped c x) (sym (code_is f k)) (record { free = shape.register; labels = shape.labels; frame = shape.frame; range = shape.operands });
+        spelt = subst (λ t. Spelts W (place_at W f i) (forms t x (loaded_word g.image (place_at W f i)))) (same_target f i x k e)
+            (code_words (place_at W f i) _ (ff.instructions i x e));
+        shaped = subst (λ c. IsShaped c x) (sym (code_is f k)) (record {
+          free = shape.register;
+          labels = shape.labels;
+          frame = shape.frame;
+          range = shape.operands;
+        });
         names = λ r q. (let m = meant f i x k r e q in let b = m.below in let s = m.is in omega arith);
       }
 
@@ -350,12 +371,14 @@ module _ (g : Inputs) (bs stack : List ℕ) (layout : IsLayout g.layout) (link :
   differ : (f h : ℕ) → f < length W.program.routines → h < length W.program.routines → W.function_at f ≡ W.function_at h → f ≡ h
   differ f h hf hh q =
       let a = known f hf in let b = known h hh in
-      let same = fs.functions_differ a.of.key b.of.key a.of.unit b.of.unit a.of.function b.of.function a.of.is b.of.is (sym (function_at f a) ∙ q ∙ function_at h b) in
+      let same = fs.functions_differ a.of.key b.of.key a.of.unit b.of.unit a.of.function b.of.function a.of.is b.of.is
+      (sym (function_at f a) ∙ q ∙ function_at h b) in
       function_once g.program.units f h b.of.key (a.of.number ∙ ap Some same) b.of.number
 
   fits : Fits W
   fits = record {
-    places = λ f i h l. (let p = (function_facts f (known f h)).addresses i l in record { some = p.some; below = p.below; aligned = p.aligned });
+    places = λ f i h l. (let p = (function_facts f (known f h)).addresses i l in
+        record { some = p.some; below = p.below; aligned = p.aligned });
     instructions = instr_is;
     tables = λ f i r labels j n h e l. table_word _ _ ((function_facts f (known f h)).tables i r labels j n e l);
     functions_differ = differ;
