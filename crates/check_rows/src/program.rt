@@ -1,6 +1,7 @@
 //! The texts of a layout and of units, and the bytes of an image, from lines of text.
 
 use std::alloc::{AllocError, Global};
+use test_images::layouts::{LayoutLines, add_item};
 use test_images::lines::image_of;
 
 /// The items of the arrays of a unit.
@@ -12,15 +13,12 @@ struct UnitLines {
     externals: String,
 }
 
-/// What lines say. Each text has the items of one array of a file, or the lines of an image.
+/// What lines say.
 #[derive(Drop)]
 pub struct ProgramLines {
-    areas: String,
-    foreign: String,
-    pins: String,
-    r13: String,
-    r2: String,
+    layout: LayoutLines,
     units: Vec<UnitLines>,
+    /// Its lines.
     image: String,
     /// What is to be told of the program.
     pub want: String,
@@ -29,16 +27,11 @@ pub struct ProgramLines {
 }
 
 /// The areas of a layout that names none.
-const USUAL_AREAS: &str =
-    r#"{"name":"text","range":["0x10010000","0x10011000"],"kind":"code"},{"name":"rodata","range":["0x10018000","0x10019000"],"kind":"const"},{"name":"data","range":["0x10020000","0x10021000"],"kind":"data"}"#;
-
-/// Adds an item behind a comma, where it is not the first.
-fn add_item(items: &mut String, item: &str) -> Result<(), AllocError> {
-    if !items.is_empty() {
-        items.push_str(",")?;
-    }
-    items.push_str(item)
-}
+static USUAL_AREAS: [&str; 3] = [
+    "code 10010000 10011000",
+    "const 10018000 10019000",
+    "data 10020000 10021000",
+];
 
 /// Instructions, as `MNEMONIC OPERANDS` with `;` between them, as the items of an array.
 fn code_items(alloc: Global, text: &str) -> Result<String, AllocError> {
@@ -105,55 +98,12 @@ impl UnitLines {
 impl ProgramLines {
     fn new(alloc: Global) -> Result<ProgramLines, AllocError> {
         Ok(ProgramLines {
-            areas: String::new(alloc),
-            foreign: String::new(alloc),
-            pins: String::new(alloc),
-            r13: String::from_str(alloc, "10038000")?,
-            r2: String::from_str(alloc, "10048000")?,
+            layout: LayoutLines::new(alloc)?,
             units: Vec::new(alloc),
             image: String::new(alloc),
             want: String::new(alloc),
             keys: String::new(alloc),
         })
-    }
-
-    /// `KIND LO HI`.
-    fn add_area(&mut self, alloc: Global, line: &str) -> Option<()> {
-        let (kind, range) = line.split_once(' ')?;
-        let (lo, hi) = range.split_once(' ')?;
-        let item = format!(in alloc;
-            r#"{{"name":"{kind}","range":["0x{lo}","0x{hi}"],"kind":"{kind}"}}"#
-        ).ok()?;
-        add_item(&mut self.areas, &item).ok()
-    }
-
-    /// `LO HI`.
-    fn add_foreign(&mut self, alloc: Global, line: &str) -> Option<()> {
-        let (lo, hi) = line.split_once(' ')?;
-        let item = format!(in alloc; r#"["0x{lo}","0x{hi}"]"#).ok()?;
-        add_item(&mut self.foreign, &item).ok()
-    }
-
-    /// `UNIT NAME ADDRESS`, with `-` for no unit.
-    fn add_pin(&mut self, alloc: Global, line: &str) -> Option<()> {
-        let (unit, rest) = line.split_once(' ')?;
-        let (name, address) = rest.split_once(' ')?;
-        let unit = match unit {
-            "-" => String::from_str(alloc, "null").ok()?,
-            _ => format!(in alloc; "\"{unit}\"").ok()?,
-        };
-        let item = format!(in alloc;
-            r#"{{"unit":{unit},"name":"{name}","address":"0x{address}"}}"#
-        ).ok()?;
-        add_item(&mut self.pins, &item).ok()
-    }
-
-    /// `R13 R2`.
-    fn set_bases(&mut self, alloc: Global, line: &str) -> Option<()> {
-        let (r13, r2) = line.split_once(' ')?;
-        self.r13 = String::from_str(alloc, r13).ok()?;
-        self.r2 = String::from_str(alloc, r2).ok()?;
-        Some(())
     }
 
     fn add_image_line(&mut self, word: &str, line: &str) -> Option<()> {
@@ -167,10 +117,7 @@ impl ProgramLines {
     fn add(&mut self, alloc: Global, word: &str, line: &str) -> Option<()> {
         match word {
             "row" => Some(()),
-            "area" => self.add_area(alloc, line),
-            "foreign" => self.add_foreign(alloc, line),
-            "pin" => self.add_pin(alloc, line),
-            "bases" => self.set_bases(alloc, line),
+            "area" | "foreign" | "pin" | "bases" => self.layout.add(alloc, word, line),
             "unit" => self.units.push(UnitLines::new(alloc, line).ok()?).ok(),
             "function" => self.units.last_mut()?.add_function(alloc, false, line),
             "local" => self.units.last_mut()?.add_function(alloc, true, line),
@@ -182,6 +129,20 @@ impl ProgramLines {
         }
     }
 
+    /// Where no area is named, adds the usual ones, and a foreign range where none is named either.
+    fn add_usual(&mut self, alloc: Global) -> Option<()> {
+        if self.layout.has_areas() {
+            return Some(());
+        }
+        if !self.layout.has_foreign() {
+            self.layout.add(alloc, "foreign", "10030000 10030100")?;
+        }
+        for area in &USUAL_AREAS {
+            self.layout.add(alloc, "area", *area)?;
+        }
+        Some(())
+    }
+
     /// What lines say; None for lines of another form and for want of memory.
     pub fn read(alloc: Global, text: &str) -> Option<ProgramLines> {
         let mut program = ProgramLines::new(alloc).ok()?;
@@ -190,25 +151,13 @@ impl ProgramLines {
                 program.add(alloc, word, rest)?;
             }
         }
+        program.add_usual(alloc)?;
         Some(program)
     }
 
     /// The text of the layout, whose entry is `main`.
     pub fn layout(&self, alloc: Global) -> Result<String, AllocError> {
-        let areas = if self.areas.is_empty() {
-            USUAL_AREAS
-        } else {
-            self.areas.as_str()
-        };
-        let foreign = if self.areas.is_empty() && self.foreign.is_empty() {
-            r#"["0x10030000","0x10030100"]"#
-        } else {
-            self.foreign.as_str()
-        };
-        format!(in alloc;
-            r#"{{"valex":"layout","version":1,"entry":"main","stop":"0x10000000","stack":["0x20000000","0x20010000"],"r13":"0x{}","r2":"0x{}","areas":[{areas}],"foreign":[{foreign}],"pins":[{}]}}"#,
-            self.r13, self.r2, self.pins
-        )
+        self.layout.text(alloc)
     }
 
     /// The texts of the units.
