@@ -5,6 +5,4 @@ mod block;
 pub mod blocks;
 pub mod cell;
 mod slot;
-#[cfg(test)]
-mod tests;
 pub mod value;

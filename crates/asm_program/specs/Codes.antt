@@ -11,5 +11,9 @@ with_byte code byte = ((code * 0x100000001b3) % 2 ^ 64 + byte) % 2 ^ 64
 abbrev pub name_code : List ℕ → ℕ
 name_code name = fold with_byte 0 name
 
+-- names with their codes
+abbrev pub by_code_and_name : ℕ → List ℕ → ℕ → List ℕ → Ordering
+by_code_and_name c m d n = ordering_then (nat_cmp c d) (slice_cmp nat_cmp m n)
+
 abbrev pub by_code : List ℕ → List ℕ → Ordering
-by_code m n = ordering_then (nat_cmp (name_code m) (name_code n)) (slice_cmp nat_cmp m n)
+by_code m n = by_code_and_name (name_code m) m (name_code n) n

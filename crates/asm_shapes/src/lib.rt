@@ -5,8 +5,6 @@ mod function;
 mod labels;
 mod operands;
 mod signature;
-#[cfg(test)]
-mod tests;
 mod unit;
 
 pub use function::{function_fault, valid_function};

@@ -5,5 +5,3 @@ pub mod answer;
 mod buffers;
 pub mod executable;
 pub mod machine;
-#[cfg(test)]
-mod tests;

@@ -6,5 +6,3 @@ pub mod accesses;
 pub mod actions;
 pub mod operands;
 pub mod registers;
-#[cfg(test)]
-mod tests;

@@ -4,6 +4,8 @@
 //! `pins`). Its entry is `main`. Of a fault are printed its number, the key, and how many candidates agree where several do.
 #![tactic(auto)]
 
+#[cfg(test)]
+mod addresses;
 mod bound;
 #[cfg(test)]
 mod many;

@@ -3,5 +3,3 @@
 
 pub mod arguments;
 pub mod bytes;
-#[cfg(test)]
-mod tests;

@@ -17,7 +17,7 @@ use layout_file::layout::Layout;
 use layout_file::read_layout;
 use limits::MOST_UNITS;
 use linked_program::program::Program;
-use std::alloc::Global;
+use std::alloc::{AllocError, Global};
 
 fn read_units(alloc: Global, texts: &[String]) -> Option<Vec<Unit>> {
     let mut units = Vec::new(alloc);
@@ -60,35 +60,21 @@ fn check_answer(
     }
 }
 
-/// What is told of a program, and what of its keys alone.
-#[derive(Drop)]
-pub struct Told {
-    pub whole: String,
-    pub keys: String,
+/// What is told of the whole, and in a second line what of the keys.
+fn told_check(alloc: Global, view: &ElfView, layout: &Layout, program: &Program) -> Option<String> {
+    let whole = check_answer(alloc, view, layout, program)?;
+    let keys = bound_answer(alloc, view, layout, program)?;
+    format!(in alloc; "{whole}\nkeys: {keys}").ok()
 }
 
-fn told_link(alloc: Global, number: u32) -> Option<Told> {
-    Some(Told {
-        whole: format!(in alloc; "link {number}").ok()?,
-        keys: format!(in alloc; "link {number}").ok()?,
-    })
-}
-
-fn told_check(alloc: Global, view: &ElfView, layout: &Layout, program: &Program) -> Option<Told> {
-    Some(Told {
-        whole: check_answer(alloc, view, layout, program)?,
-        keys: bound_answer(alloc, view, layout, program)?,
-    })
-}
-
-/// Where the units do not link, both answers are `link` and the error's number.
-fn told_units(alloc: Global, view: &ElfView, layout: &Layout, units: &[Unit]) -> Option<Told> {
+/// Where the units do not link, `link` and the error's number.
+fn told_units(alloc: Global, view: &ElfView, layout: &Layout, units: &[Unit]) -> Option<String> {
     if units.len() > MOST_UNITS as usize || !all_fit(units) {
         return None;
     }
     match Program::link(alloc, units, layout.entry()) {
         Ok(linked) => told_check(alloc, view, layout, &linked),
-        Err(error) => told_link(alloc, error.number()),
+        Err(error) => format!(in alloc; "link {}", error.number()).ok(),
     }
 }
 
@@ -103,10 +89,21 @@ fn units_of(alloc: Global, program: &ProgramLines) -> Option<Vec<Unit>> {
 }
 
 /// None for texts that are not read, and for want of memory.
-pub fn told_of(alloc: Global, program: &ProgramLines) -> Option<Told> {
+fn told_program(alloc: Global, program: &ProgramLines) -> Option<String> {
     let layout = layout_of(alloc, program)?;
     let units = units_of(alloc, program)?;
     let image = program.image(alloc)?;
     let view = ElfView::read(&image).ok()?;
     told_units(alloc, &view, &layout, &units)
+}
+
+/// The title, and what is told.
+pub fn told(alloc: Global, lines: &[String]) -> Result<String, AllocError> {
+    let Some(program) = ProgramLines::read(alloc, lines) else {
+        return String::from_str(alloc, "lines of another form");
+    };
+    match told_program(alloc, &program) {
+        Some(text) => format!(in alloc; "{}: {text}", program.title),
+        None => format!(in alloc; "{}: no answer", program.title),
+    }
 }

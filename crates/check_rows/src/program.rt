@@ -20,10 +20,7 @@ pub struct ProgramLines {
     units: Vec<UnitLines>,
     /// Its lines.
     image: String,
-    /// What is to be told of the program.
-    pub want: String,
-    /// What is to be told of its keys alone, where that does not follow.
-    pub keys: String,
+    pub title: String,
 }
 
 /// The areas of a layout that names none.
@@ -101,8 +98,7 @@ impl ProgramLines {
             layout: LayoutLines::new(alloc)?,
             units: Vec::new(alloc),
             image: String::new(alloc),
-            want: String::new(alloc),
-            keys: String::new(alloc),
+            title: String::new(alloc),
         })
     }
 
@@ -116,15 +112,13 @@ impl ProgramLines {
     /// A line, after its first word.
     fn add(&mut self, alloc: Global, word: &str, line: &str) -> Option<()> {
         match word {
-            "row" => Some(()),
+            "row" => self.title.push_str(line).ok(),
             "area" | "foreign" | "pin" | "bases" => self.layout.add(alloc, word, line),
             "unit" => self.units.push(UnitLines::new(alloc, line).ok()?).ok(),
             "function" => self.units.last_mut()?.add_function(alloc, false, line),
             "local" => self.units.last_mut()?.add_function(alloc, true, line),
             "variable" => self.units.last_mut()?.add_variable(alloc, line),
             "external" => self.units.last_mut()?.add_external(alloc, line),
-            "want" => self.want.push_str(line).ok(),
-            "keys" => self.keys.push_str(line).ok(),
             _ => self.add_image_line(word, line),
         }
     }
@@ -144,9 +138,9 @@ impl ProgramLines {
     }
 
     /// What lines say; None for lines of another form and for want of memory.
-    pub fn read(alloc: Global, text: &str) -> Option<ProgramLines> {
+    pub fn read(alloc: Global, lines: &[String]) -> Option<ProgramLines> {
         let mut program = ProgramLines::new(alloc).ok()?;
-        for line in text.split('\n') {
+        for line in lines {
             if let Some((word, rest)) = line.split_once(' ') {
                 program.add(alloc, word, rest)?;
             }

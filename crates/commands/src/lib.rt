@@ -6,6 +6,4 @@
 pub mod command;
 pub mod file;
 mod number;
-#[cfg(test)]
-mod tests;
 pub mod words;

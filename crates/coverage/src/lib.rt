@@ -2,12 +2,8 @@
 #![tactic(auto)]
 
 pub mod account;
-#[cfg(test)]
-mod account_tests;
 pub mod claims;
 mod kinds;
 mod stretches;
 pub mod sweep;
 mod tally;
-#[cfg(test)]
-mod tests;

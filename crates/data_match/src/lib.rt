@@ -5,5 +5,3 @@ mod bytes;
 pub mod fault;
 pub mod matching;
 mod place;
-#[cfg(test)]
-mod tests;

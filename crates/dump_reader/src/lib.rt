@@ -18,11 +18,7 @@ mod profile;
 mod pseudo;
 mod read;
 mod reply;
-#[cfg(test)]
-mod rows;
 mod shape;
-#[cfg(test)]
-mod tests;
 mod variable;
 mod words;
 

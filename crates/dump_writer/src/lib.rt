@@ -4,8 +4,6 @@
 mod external;
 mod instr;
 mod spelling;
-#[cfg(test)]
-mod tests;
 mod tree;
 mod types;
 mod unit;

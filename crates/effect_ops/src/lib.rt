@@ -4,5 +4,3 @@
 pub mod calls;
 pub mod operations;
 pub mod rows;
-#[cfg(test)]
-mod tests;

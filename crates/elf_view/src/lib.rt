@@ -17,6 +17,3 @@ pub use loaded_segments::{LoadedSegments, NumberedSegment};
 pub use segment::SegView;
 pub use symbol::SymView;
 pub use view::ElfView;
-
-#[cfg(test)]
-mod tests;

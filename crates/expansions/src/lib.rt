@@ -4,16 +4,10 @@
 mod addresses;
 mod area;
 pub mod function;
-#[cfg(test)]
-mod function_tests;
 mod image_words;
 mod instr;
 pub mod matching;
 mod names;
 mod place;
 mod spelling;
-#[cfg(test)]
-mod spelling_tests;
 pub mod table;
-#[cfg(test)]
-mod test_lines;

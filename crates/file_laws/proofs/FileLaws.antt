@@ -110,6 +110,23 @@ module _ (w : World) (live : List Live) (next : ℕ) where
   get_law f g h So = h.so
   get_law f g h Unused = undef_means w live next 0
 
+  -- the special registers are put at once
+  special_law : (f : File Val) (g : File ℕ) → FilesAgree w live next f g → (lr ctr ca so : Val) (x y z u : ℕ)
+      → Means w live next lr x → Means w live next ctr y → Means w live next ca z → Means w live next so u
+      → FilesAgree w live next (record f { lr = lr; ctr = ctr; ca = ca; so = so }) (record g { lr = x; ctr = y; ca = z; so = u })
+  special_law f g h lr ctr ca so x y z u a b c d =
+      record {
+        gprs = h.gprs;
+        wide = h.wide;
+        bits = h.bits;
+        bits_wide = h.bits_wide;
+        lr = a;
+        ctr = b;
+        ca = c;
+        so = d;
+        bases = h.bases;
+      }
+
   pub put_law : (f : File Val) (g : File ℕ) → FilesAgree w live next f g → (p : Place) (v : Val) (x : ℕ) → Free p → Means w live next v x
       → FilesAgree w live next (put f p v) (put g p x)
   put_law f g h (Gpr n) v x e m =
@@ -137,50 +154,10 @@ module _ (w : World) (live : List Live) (next : ℕ) where
         so = h.so;
         bases = h.bases;
       }
-  put_law f g h Lr v x e m = record {
-    gprs = h.gprs;
-    wide = h.wide;
-    bits = h.bits;
-    bits_wide = h.bits_wide;
-    lr = m;
-    ctr = h.ctr;
-    ca = h.ca;
-    so = h.so;
-    bases = h.bases;
-  }
-  put_law f g h Ctr v x e m = record {
-    gprs = h.gprs;
-    wide = h.wide;
-    bits = h.bits;
-    bits_wide = h.bits_wide;
-    lr = h.lr;
-    ctr = m;
-    ca = h.ca;
-    so = h.so;
-    bases = h.bases;
-  }
-  put_law f g h Ca v x e m = record {
-    gprs = h.gprs;
-    wide = h.wide;
-    bits = h.bits;
-    bits_wide = h.bits_wide;
-    lr = h.lr;
-    ctr = h.ctr;
-    ca = m;
-    so = h.so;
-    bases = h.bases;
-  }
-  put_law f g h So v x e m = record {
-    gprs = h.gprs;
-    wide = h.wide;
-    bits = h.bits;
-    bits_wide = h.bits_wide;
-    lr = h.lr;
-    ctr = h.ctr;
-    ca = h.ca;
-    so = m;
-    bases = h.bases;
-  }
+  put_law f g h Lr v x e m = special_law f g h v f.ctr f.ca f.so x g.ctr g.ca g.so m h.ctr h.ca h.so
+  put_law f g h Ctr v x e m = special_law f g h f.lr v f.ca f.so g.lr x g.ca g.so h.lr m h.ca h.so
+  put_law f g h Ca v x e m = special_law f g h f.lr f.ctr v f.so g.lr g.ctr x g.so h.lr h.ctr m h.so
+  put_law f g h So v x e m = special_law f g h f.lr f.ctr f.ca v g.lr g.ctr g.ca x h.lr h.ctr h.ca m
   put_law f g h Unused v x e m = h
 
   pub put_each_law : (to : Place → Val) (from : Place → ℕ) (ps : List Place) → AllReserved ps

@@ -3,5 +3,3 @@
 
 pub mod memory;
 mod region;
-#[cfg(test)]
-mod tests;

@@ -10,6 +10,3 @@ mod read;
 mod span;
 
 pub use read::read_layout;
-
-#[cfg(test)]
-mod tests;

@@ -3,8 +3,6 @@
 
 mod form;
 mod table;
-#[cfg(test)]
-mod tests;
 
 pub use form::{Form, JumpForm, PseudoForm};
 pub use table::mnemonics;

@@ -7,6 +7,4 @@ pub mod encoding;
 pub mod machine;
 pub mod operand;
 mod table;
-#[cfg(test)]
-mod tests;
 pub mod text;

@@ -6,7 +6,3 @@ pub mod calls;
 pub mod cpu;
 pub mod externals;
 pub mod registers;
-#[cfg(test)]
-mod tables;
-#[cfg(test)]
-mod tests;

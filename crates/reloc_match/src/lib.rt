@@ -6,6 +6,4 @@ pub mod fields;
 pub mod matching;
 pub mod shape;
 pub mod small_data;
-#[cfg(test)]
-mod tests;
 pub mod word;

@@ -30,8 +30,11 @@ const IMAGE: &str =
 const REPORT: &str =
     "yes\nfunctions 1 bytes 8\ntables 0 bytes 0\nvariables 0 bytes 0\nexternals 0\npadding 0\nforeign 0\nloaded 8\n10010000 10010008 function a.c main\n";
 
-const USAGE: &str =
-    "usage: valex check LAYOUT IMAGE UNIT...\n       valex run LAYOUT IMAGE REPLIES STEPS UNIT...\n       valex show IMAGE ADDRESS COUNT\n       valex make SEED COUNT\n       valex upgrade UNIT\n";
+const USAGE: &str = "usage: valex check LAYOUT IMAGE UNIT...\n\
+\x20      valex run LAYOUT IMAGE REPLIES STEPS UNIT...\n\
+\x20      valex show IMAGE ADDRESS COUNT\n\
+\x20      valex make SEED COUNT\n\
+\x20      valex upgrade UNIT\n";
 
 const REPLIES: &str =
     r#"{"valex":"replies","version":2,"replies":[7,[0,1],{"r3":0,"r4":0,"fills":["00"]}]}"#;
@@ -130,25 +133,40 @@ fn runs(
     )
 }
 
+/// Takes a section: an image, or asserts what `run` or `check` answers.
+fn judges_by(
+    rt: &impl Abort,
+    alloc: Global,
+    units: &str,
+    store: &mut MemStore,
+    kind: &str,
+    text: &str,
+) -> Result<(), Fail> {
+    if kind == "image" {
+        let image = image_of(alloc, text).ok_or("an image")?;
+        return Ok(store.add("image.elf", &image)?);
+    }
+    let text = format!(in alloc; "{text}\n")?;
+    if let Some(run) = kind.strip_prefix("run ") {
+        return runs(rt, alloc, units, store, run, &text);
+    }
+    let Ok(status) = kind.parse::<u8>() else {
+        return Ok(());
+    };
+    let check = format!(in alloc; "check layout.json image.elf {units}")?;
+    answers(rt, alloc, &check, store, status, &text)
+}
+
 /// Asserts the answers on the images of a program.
 fn judges(rt: &impl Abort, alloc: Global, program: &str) -> Result<(), Fail> {
     let units = match section(program, "b.json") {
         "" => "a.json",
         _ => "a.json b.json",
     };
-    let check = format!(in alloc; "check layout.json image.elf {units}")?;
     let mut store = program_store(alloc, program)?;
     for part in program.split("\n#") {
         let (kind, text) = part.split_once('\n').unwrap_or((part, ""));
-        let line = format!(in alloc; "{text}\n")?;
-        if kind == "image" {
-            let image = image_of(alloc, text).ok_or("an image")?;
-            store.add("image.elf", &image)?;
-        } else if let Some(run) = kind.strip_prefix("run ") {
-            runs(rt, alloc, units, &mut store, run, line.as_str())?;
-        } else if let Ok(status) = kind.parse::<u8>() {
-            answers(rt, alloc, check.as_str(), &mut store, status, line.as_str())?;
-        }
+        judges_by(rt, alloc, units, &mut store, kind, text)?;
     }
     Ok(())
 }
@@ -177,20 +195,24 @@ fn programs_that_run(rt: HostRuntime) -> Result<(), Fail> {
     Ok(())
 }
 
+/// Asserts what words answer, by `WORDS => STATUS TEXT`.
+fn words_answer(rt: &impl Abort, alloc: Global, row: &str) -> Result<(), Fail> {
+    let (words, answer) = row.split_once(" => ").ok_or("an answer")?;
+    let (status, text) = answer.split_once(' ').ok_or("a text")?;
+    let status = status.parse::<u8>()?;
+    let mut store = store_of(alloc)?;
+    store.add("x.json", b"{")?;
+    if text == "usage" {
+        return answers(rt, alloc, words, &mut store, status, USAGE);
+    }
+    let line = format!(in alloc; "{text}\n")?;
+    answers(rt, alloc, words, &mut store, status, &line)
+}
+
 #[test]
 fn words_of_runs(rt: HostRuntime) -> Result<(), Fail> {
-    let alloc = rt.alloc();
     for row in run_words() {
-        let (words, answer) = row.split_once(" => ").ok_or("an answer")?;
-        let (status, text) = answer.split_once(' ').ok_or("a text")?;
-        let line = format!(in alloc; "{text}\n")?;
-        let text = match text {
-            "usage" => USAGE,
-            _ => line.as_str(),
-        };
-        let mut store = store_of(alloc)?;
-        store.add("x.json", b"{")?;
-        answers(&rt, alloc, words, &mut store, status.parse::<u8>()?, text)?;
+        words_answer(&rt, rt.alloc(), *row)?;
     }
     Ok(())
 }
@@ -201,24 +223,32 @@ fn changed(alloc: Global, text: &str, old: &str, new: &str) -> Result<String, Fa
     Ok(format!(in alloc; "{front}{new}{back}")?)
 }
 
-#[test]
-fn texts_that_are_refused(rt: HostRuntime) -> Result<(), Fail> {
-    let alloc = rt.alloc();
-    let layout = layout_of(alloc, LAYOUT).ok_or("a layout")?;
-    for (words, file, base, rows) in [
-        (CHECK, "layout.json", layout.as_str(), layouts()),
-        (CHECK, "a.json", UNIT, units()),
-        (RUN, "layout.json", layout.as_str(), layouts()),
-        (RUN, "a.json", UNIT, units()),
-        (RUN, "replies.json", REPLIES, replies()),
-    ] {
-        for (old, new, text) in rows {
-            let mut store = store_of(alloc)?;
-            store.add(file, changed(alloc, base, *old, *new)?.as_bytes())?;
-            answers(&rt, alloc, words, &mut store, 3, *text)?;
-        }
+/// Asserts that a command refuses a file with each change of a text.
+fn refuses(
+    rt: &impl Abort,
+    alloc: Global,
+    words: &str,
+    file: &str,
+    base: &str,
+    rows: &[(&str, &str, &str)],
+) -> Result<(), Fail> {
+    for (old, new, text) in rows {
+        let content = changed(alloc, base, *old, *new)?;
+        let mut store = store_of(alloc)?;
+        store.add(file, content.as_bytes())?;
+        answers(rt, alloc, words, &mut store, 3, *text)?;
     }
     Ok(())
+}
+
+#[test]
+fn texts_that_are_refused(rt: HostRuntime) -> Result<(), Fail> {
+    let layout = layout_of(rt.alloc(), LAYOUT).ok_or("a layout")?;
+    for words in [CHECK, RUN] {
+        refuses(&rt, rt.alloc(), words, "layout.json", &layout, layouts())?;
+        refuses(&rt, rt.alloc(), words, "a.json", UNIT, units())?;
+    }
+    refuses(&rt, rt.alloc(), RUN, "replies.json", REPLIES, replies())
 }
 
 /// The image with other bytes at a place.
@@ -523,115 +553,118 @@ fn files_in_their_order(rt: HostRuntime) -> Result<(), Fail> {
     Ok(())
 }
 
+/// Asserts the text that `upgrade` writes of a unit, which it keeps.
+fn upgrades_to(rt: &impl Abort, alloc: Global, unit: &str, upgraded: &str) -> Result<(), Fail> {
+    let wanted = format!(in alloc; "{upgraded}\n")?;
+    let mut store = store_of(alloc)?;
+    store.add("a.json", unit.as_bytes())?;
+    answers(rt, alloc, "upgrade a.json", &mut store, 0, &wanted)?;
+    store.add("a.json", wanted.as_bytes())?;
+    answers(rt, alloc, "upgrade a.json", &mut store, 0, &wanted)
+}
+
 #[test]
 fn units_of_the_newest_version(rt: HostRuntime) -> Result<(), Fail> {
-    let alloc = rt.alloc();
     for (unit, upgraded) in upgrades() {
-        let mut store = store_of(alloc)?;
-        let wanted = format!(in alloc; "{upgraded}\n")?;
-        store.add("a.json", unit.as_bytes())?;
-        answers(&rt, alloc, "upgrade a.json", &mut store, 0, wanted.as_str())?;
-        store.add("a.json", wanted.as_bytes())?;
-        answers(&rt, alloc, "upgrade a.json", &mut store, 0, wanted.as_str())?;
+        upgrades_to(&rt, rt.alloc(), *unit, *upgraded)?;
     }
-    for (old, new, text) in units() {
-        let mut store = store_of(alloc)?;
-        store.add("a.json", changed(alloc, UNIT, *old, *new)?.as_bytes())?;
-        answers(&rt, alloc, "upgrade a.json", &mut store, 3, *text)?;
-    }
-    Ok(())
+    refuses(&rt, rt.alloc(), "upgrade a.json", "a.json", UNIT, units())
+}
+
+/// The command, the file that is so long, and what is told.
+static LONG: [(&str, &str, usize, &str); 7] = [
+    (
+        CHECK,
+        "layout.json",
+        8_388_609,
+        "refused layout.json store 1 too-long 8388608\n",
+    ),
+    (
+        CHECK,
+        "image.elf",
+        33_554_433,
+        "refused image.elf store 1 too-long 33554432\n",
+    ),
+    (
+        CHECK,
+        "image.elf",
+        33_554_432,
+        "refused image.elf elf 2 ident 0\n",
+    ),
+    (
+        CHECK,
+        "a.json",
+        8_388_609,
+        "refused a.json store 1 too-long 8388608\n",
+    ),
+    (
+        RUN,
+        "replies.json",
+        8_388_609,
+        "refused replies.json store 1 too-long 8388608\n",
+    ),
+    (
+        "show image.elf 0x0 1",
+        "image.elf",
+        33_554_433,
+        "refused image.elf store 1 too-long 33554432\n",
+    ),
+    (
+        "upgrade a.json",
+        "a.json",
+        8_388_609,
+        "refused a.json store 1 too-long 8388608\n",
+    ),
+];
+
+fn long_rows() -> &'static [(&'static str, &'static str, usize, &'static str)] {
+    &LONG
 }
 
 #[test]
 fn files_that_are_too_long(rt: HostRuntime) -> Result<(), Fail> {
-    let alloc = rt.alloc();
-    let table = [
-        (
-            CHECK,
-            "layout.json",
-            8_388_609,
-            "refused layout.json store 1 too-long 8388608\n",
-        ),
-        (
-            CHECK,
-            "image.elf",
-            33_554_433,
-            "refused image.elf store 1 too-long 33554432\n",
-        ),
-        (
-            CHECK,
-            "image.elf",
-            33_554_432,
-            "refused image.elf elf 2 ident 0\n",
-        ),
-        (
-            CHECK,
-            "a.json",
-            8_388_609,
-            "refused a.json store 1 too-long 8388608\n",
-        ),
-        (
-            RUN,
-            "replies.json",
-            8_388_609,
-            "refused replies.json store 1 too-long 8388608\n",
-        ),
-        (
-            "show image.elf 0x0 1",
-            "image.elf",
-            33_554_433,
-            "refused image.elf store 1 too-long 33554432\n",
-        ),
-        (
-            "upgrade a.json",
-            "a.json",
-            8_388_609,
-            "refused a.json store 1 too-long 8388608\n",
-        ),
-    ];
-    for (words, name, length, text) in table {
-        let mut store = store_of(alloc)?;
-        store.add(name, &vec![in alloc; b' '; length]?)?;
-        answers(&rt, alloc, words, &mut store, 3, text)?;
+    for (words, name, length, text) in long_rows() {
+        let content = vec![in rt.alloc(); b' '; *length]?;
+        let mut store = store_of(rt.alloc())?;
+        store.add(*name, &content)?;
+        answers(&rt, rt.alloc(), *words, &mut store, 3, *text)?;
     }
     Ok(())
 }
 
-/// Eight dumps of 8,388,608 bytes may be read, and one byte more may not.
+/// The units, the content of the last, and what is told. Eight dumps of 8,388,608 bytes may be read, and one byte more may not.
+static TOGETHER: [(&str, &str, &str); 3] = [
+    (
+        "b.json b.json b.json b.json b.json b.json b.json b.json",
+        "",
+        "refused b.json dump 1 not-json .\n",
+    ),
+    (
+        "b.json b.json b.json b.json b.json b.json b.json b.json c.json",
+        "",
+        "refused b.json dump 1 not-json .\n",
+    ),
+    (
+        "b.json b.json b.json b.json b.json b.json b.json b.json c.json",
+        "{",
+        "refused c.json store 2 total 67108864\n",
+    ),
+];
+
+fn together_rows() -> &'static [(&'static str, &'static str, &'static str)] {
+    &TOGETHER
+}
+
 #[test]
 fn dumps_that_are_too_long_together(rt: HostRuntime) -> Result<(), Fail> {
-    let alloc = rt.alloc();
-    let eight =
-        "check layout.json image.elf b.json b.json b.json b.json b.json b.json b.json b.json";
-    let nine = format!(in alloc; "{eight} c.json")?;
-    let mut store = store_of(alloc)?;
-    store.add("b.json", &vec![in alloc; b' '; 8_388_608]?)?;
-    answers(
-        &rt,
-        alloc,
-        eight,
-        &mut store,
-        3,
-        "refused b.json dump 1 not-json .\n",
-    )?;
-    store.add("c.json", b"")?;
-    answers(
-        &rt,
-        alloc,
-        nine.as_str(),
-        &mut store,
-        3,
-        "refused b.json dump 1 not-json .\n",
-    )?;
-    store.add("c.json", b"{")?;
-    answers(
-        &rt,
-        alloc,
-        nine.as_str(),
-        &mut store,
-        3,
-        "refused c.json store 2 total 67108864\n",
-    )
+    let mut store = store_of(rt.alloc())?;
+    store.add("b.json", &vec![in rt.alloc(); b' '; 8_388_608]?)?;
+    for (units, last, text) in together_rows() {
+        let words = format!(in rt.alloc(); "check layout.json image.elf {units}")?;
+        store.add("c.json", last.as_bytes())?;
+        answers(&rt, rt.alloc(), &words, &mut store, 3, *text)?;
+    }
+    Ok(())
 }
 
 /// A unit of 8,277,609 bytes; its text of the newest version has 13 bytes more for each of its externals.
@@ -662,67 +695,84 @@ fn an_upgraded_unit_that_is_too_long(rt: HostRuntime) -> Result<(), Fail> {
     )
 }
 
+/// The command, the read that fails, the put that fails, how many bytes a put takes, the status, and what was taken. 0 fails none.
+type Failing = (&'static str, u32, u32, u32, u8, &'static str);
+
+static FAILING: [Failing; 14] = [
+    (CHECK, 1, 0, 64, 4, "read fault layout.json\n"),
+    (CHECK, 2, 0, 64, 4, "read fault image.elf\n"),
+    (CHECK, 3, 0, 64, 4, "read fault a.json\n"),
+    (CHECK, 2, 1, 64, 5, ""),
+    (CHECK, 0, 2, 4, 5, "yes\n"),
+    (CHECK, 4, 200, 1, 0, REPORT),
+    (RUN, 3, 0, 64, 4, "read fault replies.json\n"),
+    (RUN, 4, 0, 64, 4, "read fault a.json\n"),
+    (RUN, 0, 2, 9, 5, "assembly\n"),
+    (
+        "show image.elf 0x10010000 3",
+        1,
+        0,
+        64,
+        4,
+        "read fault image.elf\n",
+    ),
+    ("show image.elf 0x10010000 3", 0, 2, 5, 5, "entry"),
+    ("upgrade a.json", 1, 0, 64, 4, "read fault a.json\n"),
+    ("upgrade a.json", 0, 1, 64, 5, ""),
+    (
+        "check",
+        1,
+        2,
+        64,
+        5,
+        "usage: valex check LAYOUT IMAGE UNIT...\n       valex run LAYOUT ",
+    ),
+];
+
+fn failing_rows() -> &'static [Failing] {
+    &FAILING
+}
+
+/// Asserts what is taken of an answer where a read or a put fails.
+fn fails(rt: &impl Abort, alloc: Global, row: &Failing) -> Result<(), Fail> {
+    let (words, read, put, most, status, text) = row;
+    if *most == 0 {
+        return Err("puts of no byte".into());
+    }
+    let words = words_of(alloc, *words)?;
+    let mut store = store_of(alloc)?;
+    store.fail_call(*read)?;
+    let mut out = MemSink::new(alloc, 4096, *most)?;
+    out.fail_call(*put)?;
+    let found = valex(alloc, &words, &mut store, &mut out);
+    assert_eq!(rt; found, *status, "before {text}");
+    assert_eq!(rt; out.taken(), text.as_bytes());
+    Ok(())
+}
+
 #[test]
 fn reads_and_puts_that_fail(rt: HostRuntime) -> Result<(), Fail> {
-    let alloc = rt.alloc();
-    // The command, the read that fails, the put that fails, how many bytes a put takes, the status, and what was taken. 0 fails none.
-    let table = [
-        (CHECK, 1, 0, 64, 4, "read fault layout.json\n"),
-        (CHECK, 2, 0, 64, 4, "read fault image.elf\n"),
-        (CHECK, 3, 0, 64, 4, "read fault a.json\n"),
-        (CHECK, 2, 1, 64, 5, ""),
-        (CHECK, 0, 2, 4, 5, "yes\n"),
-        (CHECK, 4, 200, 1, 0, REPORT),
-        (RUN, 3, 0, 64, 4, "read fault replies.json\n"),
-        (RUN, 4, 0, 64, 4, "read fault a.json\n"),
-        (RUN, 0, 2, 9, 5, "assembly\n"),
-        (
-            "show image.elf 0x10010000 3",
-            1,
-            0,
-            64,
-            4,
-            "read fault image.elf\n",
-        ),
-        ("show image.elf 0x10010000 3", 0, 2, 5, 5, "entry"),
-        ("upgrade a.json", 1, 0, 64, 4, "read fault a.json\n"),
-        ("upgrade a.json", 0, 1, 64, 5, ""),
-        (
-            "check",
-            1,
-            2,
-            64,
-            5,
-            "usage: valex check LAYOUT IMAGE UNIT...\n       valex run LAYOUT ",
-        ),
-    ];
-    for (words, read, put, most, status, text) in table {
-        let words = words_of(alloc, words)?;
-        let mut store = store_of(alloc)?;
-        store.fail_call(read)?;
-        let mut out = MemSink::new(alloc, 4096, most)?;
-        out.fail_call(put)?;
-        assert_eq!(rt;
-            valex(alloc, &words, &mut store, &mut out),
-            status,
-            "before {text}"
-        );
-        assert_eq!(rt; out.taken(), text.as_bytes());
+    for row in failing_rows() {
+        fails(&rt, rt.alloc(), row)?;
     }
+    Ok(())
+}
+
+/// Asserts that so many bytes of the report are taken before the put that fails.
+fn fails_behind(rt: &impl Abort, alloc: Global, words: &[String], before: u32) -> Result<(), Fail> {
+    let mut store = store_of(alloc)?;
+    let mut out = MemSink::new(alloc, 256, 1)?;
+    out.fail_call(before.wrapping_add(1))?;
+    assert_eq!(rt; valex(alloc, words, &mut store, &mut out), 5);
+    assert_eq!(rt; Some(out.taken()), REPORT.as_bytes().get(..before as usize));
     Ok(())
 }
 
 #[test]
 fn each_put_that_fails(rt: HostRuntime) -> Result<(), Fail> {
-    let alloc = rt.alloc();
-    let words = words_of(alloc, CHECK)?;
+    let words = words_of(rt.alloc(), CHECK)?;
     for (before, _) in REPORT.bytes().enumerate() {
-        let mut store = store_of(alloc)?;
-        let mut out = MemSink::new(alloc, 256, 1)?;
-        out.fail_call(before as u32 + 1)?;
-        assert_eq!(rt; valex(alloc, &words, &mut store, &mut out), 5);
-        assert_eq!(rt; out.taken().len(), before);
-        assert!(rt; REPORT.as_bytes().starts_with(out.taken()));
+        fails_behind(&rt, rt.alloc(), &words, before as u32)?;
     }
     Ok(())
 }

@@ -1,5 +1,5 @@
 -- What a verdict prints, and its status.
-use Rattle.std.specs.Prelude.{ℕ, List, [], ◌∷◌, codes}
+use Rattle.std.specs.Prelude.{ℕ, List, [], ◌∷◌, ◌++◌, codes}
 use Rattle.limits.specs.declared.TheConstants.{MOST_DUMPS_BYTES}
 use Rattle.text_model.specs.Lines.{line}
 use Rattle.commands.specs.Words.{word_at}
@@ -11,7 +11,12 @@ use Rattle.report_text.specs.declared.verdict.Verdict.TheVariants.{Usage, Unread
 
 -- the commands, those that are not there yet too
 abbrev pub usage : List ℕ
-usage = codes "usage: valex check LAYOUT IMAGE UNIT...\n       valex run LAYOUT IMAGE REPLIES STEPS UNIT...\n       valex show IMAGE ADDRESS COUNT\n       valex make SEED COUNT\n       valex upgrade UNIT\n"
+usage =
+    codes "usage: valex check LAYOUT IMAGE UNIT...\n"
+    ++ codes "       valex run LAYOUT IMAGE REPLIES STEPS UNIT...\n"
+    ++ codes "       valex show IMAGE ADDRESS COUNT\n"
+    ++ codes "       valex make SEED COUNT\n"
+    ++ codes "       valex upgrade UNIT\n"
 
 -- by the words of the command, among which a file is named
 abbrev pub text_of : List (List ℕ) → Verdict → List ℕ

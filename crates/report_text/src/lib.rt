@@ -5,8 +5,6 @@ mod owner;
 mod path;
 mod reason;
 mod report;
-#[cfg(test)]
-mod tests;
 pub mod verdict;
 mod verdict_text;
 

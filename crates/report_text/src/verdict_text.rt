@@ -12,8 +12,11 @@ use limits::MOST_DUMPS_BYTES;
 use std::alloc::{AllocError, Global};
 
 /// The commands, those that are not there yet too.
-const USAGE: &str =
-    "usage: valex check LAYOUT IMAGE UNIT...\n       valex run LAYOUT IMAGE REPLIES STEPS UNIT...\n       valex show IMAGE ADDRESS COUNT\n       valex make SEED COUNT\n       valex upgrade UNIT\n";
+const USAGE: &str = "usage: valex check LAYOUT IMAGE UNIT...\n\
+\x20      valex run LAYOUT IMAGE REPLIES STEPS UNIT...\n\
+\x20      valex show IMAGE ADDRESS COUNT\n\
+\x20      valex make SEED COUNT\n\
+\x20      valex upgrade UNIT\n";
 
 /// The line on a file that is too long by itself, or with the dumps before it.
 fn store_line(

@@ -4,6 +4,4 @@
 pub mod area;
 pub mod diff;
 pub mod matching;
-#[cfg(test)]
-mod tests;
 pub mod word;

@@ -3,7 +3,5 @@
 
 mod flags;
 mod show;
-#[cfg(test)]
-mod tests;
 
 pub use show::show_text;

@@ -3,11 +3,12 @@ use Rattle.std.proofs.Common.{◌≡◌, ℕ, zero, suc, ◌+◌, ◌*◌, ◌<�
 use Rattle.std.proofs.Common.{ap, ap₂, ◌∙◌, subst, arith, if◌then◌else◌}
 use Rattle.isa_model.specs.Word.{wrapped}
 use Rattle.effect_model.specs.declared.Place.{Place}
-use Rattle.effect_model.specs.declared.Place.TheVariants.{Gpr}
+use Rattle.effect_model.specs.declared.Place.TheVariants.{Gpr, Unused}
 use Rattle.effect_model.specs.declared.Operand.{Operand}
 use Rattle.effect_model.specs.declared.Effect.{Effect}
 use Rattle.effect_model.specs.declared.Form.{Form}
 use Rattle.effect_model.specs.declared.Action.{Action}
+use Rattle.effect_model.specs.declared.Action.TheVariants as does
 use Rattle.effect_model.specs.Forms.{width}
 use Rattle.effect_model.specs.Meaning.{stops}
 use Rattle.effect_model.specs.Files.{File, get, put, word_read, flat_stops, flat_effect}
@@ -44,7 +45,7 @@ use Rattle.machine_model.specs.Worlds.{World, code_of, place_at, target_in}
 use Rattle.machine_model.specs.Fits.{Fits, Spelt, Spelts, CodeAt, IsShaped}
 use Rattle.machine_model.specs.Relation.{Means, Related, MemoryAgrees}
 use Rattle.machine_model.specs.Leads.{Goes}
-use Rattle.file_laws.specs.Laws.{Alike, Works, Divides, Loads, Stores, DividesAlike, Keyed, IsNoJump}
+use Rattle.file_laws.specs.Laws.{Alike, Works, Divides, Loads, Stores, DividesAlike, SumsAgree, Keyed, IsNoJump}
 use Rattle.file_laws.proofs.FileLaws.{get_law, put_law, put_spares, free_of, spare_of}
 use Rattle.file_laws.proofs.Plains.{plain_alike}
 use Rattle.memory_laws.specs.Laws.{Written, LoadAgrees}
@@ -65,6 +66,38 @@ pub memory_of : (w : World) (s : State) (t : FlatState) → Related w s t → Me
 memory_of w s t r = record { laid = r.laid; frame = r.frame; cells = r.cells; same = r.same }
 
 module _ (w : World) (ok : Fits w) (s : State) (t : FlatState) (r : Related w s t) (f i : ℕ) where
+  store_step : (x : Plain) (key : ℕ) (m : Machine) → Stands w t f i (instrs.Plain x) → CodeAt w (place_at w f i) m
+      → (form : Form) (from : Place) (u v y z : Operand) → action_of m ≡ does.Store form from y z Unused → SumsAgree w s.live s.next u v y z
+      → Goes w t (steps.performed w.program f i s key x (does.Store form from u v Unused))
+  store_step x key m h c form from u v y z e sums =
+      at (may_store_by s.live form (sum_args w.program.kinds (value_read s.file u) (value_read s.file v))) refl
+    where
+      at : (b : Bool) → may_store_by s.live form (sum_args w.program.kinds (value_read s.file u) (value_read s.file v)) ≡ b
+          → Goes w t (if b then asm.Went
+          (record (gone s f i s.file) {
+            live = stored_by s.live form
+                (sum_args w.program.kinds (value_read s.file u) (value_read s.file v))
+                (get Undef s.file from);
+          }) else asm.Undefined whys.Access)
+      at false q = tt
+      at true q =
+          let l = store_law w ok s.live s.next t.mem (memory_of w s t r) form _ (get Undef s.file from) _ (get 0 t.file from)
+          (sums s.file t.file r.files) (get_law w s.live s.next s.file t.file r.files from) q in
+          let live = stored_by s.live form (sum_args w.program.kinds (value_read s.file u) (value_read s.file v)) (get Undef s.file from) in
+          let keep = same_homes w s.live live s.next l.homes in
+          let b = c.below in
+          let hh = h.here in
+          one w s t r _ (record { file = t.file; pc = wrapped (t.pc + 4); mem = l.mem })
+          (then_is w t (fetch_law w t _ m c r.same h.here) (ap (performed t m) e ∙ ap (kept t t.file) l.is)) (record {
+            laid = l.agrees.laid;
+            frame = l.agrees.frame;
+            cells = l.agrees.cells;
+            same = l.agrees.same;
+            pointer = r.pointer ∙ ap (λ n. Ptr n 0) (sym l.top_stays);
+            files = files_keep w s.live s.next live s.next keep s.file t.file r.files;
+            place = next_place w live s.next f i _ 1 h.known h.is h.facts (plain_len x _) (wrapped (t.pc + 4)) (omega arith);
+          })
+
   alike_step : (x : Plain) (key : ℕ) (a b : Action) (m : Machine) → Stands w t f i (instrs.Plain x) → CodeAt w (place_at w f i) m
       → action_of m ≡ b → Alike w s.live s.next a b → Goes w t (steps.performed w.program f i s key x a)
   alike_step x key _ _ m h c e (Works es ds law) =
@@ -98,37 +131,7 @@ module _ (w : World) (ok : Fits w) (s : State) (t : FlatState) (r : Related w s 
       at (Some v1) l =
           moves_on w s t r f i (instrs.Plain x) m _ (put t.file to l.0) h c (plain_len x _) (ap (performed t m) e ∙ ap (got t to) l.1)
           (put_law w s.live s.next s.file t.file r.files to v1 l.0 (free_of to free) l.2) (put_spares s.file to v1 (spare_of to free))
-  alike_step x key _ _ m h c e (Stores form from u v y z sums) =
-      at (may_store_by s.live form (sum_args w.program.kinds (value_read s.file u) (value_read s.file v))) refl
-    where
-      to : Val
-      to = sum_args w.program.kinds (value_read s.file u) (value_read s.file v)
-
-      at : (b : Bool) → may_store_by s.live form (sum_args w.program.kinds (value_read s.file u) (value_read s.file v)) ≡ b
-          → Goes w t (if b then asm.Went
-          (record (gone s f i s.file) {
-            live = stored_by s.live form
-                (sum_args w.program.kinds (value_read s.file u) (value_read s.file v))
-                (get Undef s.file from);
-          }) else asm.Undefined whys.Access)
-      at false q = tt
-      at true q =
-          let l = store_law w ok s.live s.next t.mem (memory_of w s t r) form _ (get Undef s.file from) _ (get 0 t.file from)
-          (sums s.file t.file r.files) (get_law w s.live s.next s.file t.file r.files from) q in
-          let live = stored_by s.live form (sum_args w.program.kinds (value_read s.file u) (value_read s.file v)) (get Undef s.file from) in
-          let keep = same_homes w s.live live s.next l.homes in
-          let b = c.below in
-          let hh = h.here in
-          one w s t r _ (record { file = t.file; pc = wrapped (t.pc + 4); mem = l.mem })
-          (then_is w t (fetch_law w t _ m c r.same h.here) (ap (performed t m) e ∙ ap (kept t t.file) l.is)) (record {
-            laid = l.agrees.laid;
-            frame = l.agrees.frame;
-            cells = l.agrees.cells;
-            same = l.agrees.same;
-            pointer = r.pointer ∙ ap (λ n. Ptr n 0) (sym l.top_stays);
-            files = files_keep w s.live s.next live s.next keep s.file t.file r.files;
-            place = next_place w live s.next f i _ 1 h.known h.is h.facts (plain_len x _) (wrapped (t.pc + 4)) (omega arith);
-          })
+  alike_step x key _ _ m h c e (Stores form from u v y z sums) = store_step x key m h c form from u v y z e sums
 
   keyed : (x : Plain) → Stands w t f i (instrs.Plain x) → Keyed w x (key_at w.program f i) (target_in w f i (instrs.Plain x))
   keyed x h r q = (

@@ -84,7 +84,71 @@ table_load w t s a x h =
     let word = word_law t.mem w.memory a h.below (λ i l. s.bytes (a + i) (h.apart i l)) in
     ap (λ b. if b then Some (word_of t.mem a) else None) maps ∙ ap Some (word ∙ h.is)
 
+eight : (a : ℕ) → a + 8 ≡ a + 4 + 4
+eight a = omega arith
+
+twice : (g : File Val) → put (put g (Gpr 12) Undef) (Gpr 12) Undef ≡ put g (Gpr 12) Undef
+twice g = ap (λ l. record g { gprs = l }) (set-set g.gprs 12 Undef Undef)
+
+-- the address of an entry, from the halves of two words
+places : (v1 wd1 wd2 v2 j y n1 n2 z : ℕ) → y ≡ 4 * j → n1 ≡ spread (lo wd1) → n2 ≡ spread (lo wd2)
+    → z ≡ wrapped (y + wrapped (n1 * 65536)) → v1 ≡ wd1 → v2 ≡ wd2
+    → wrapped (lo v1 * 65536 + sext16 v2) + 4 * j + 4 ≤ 0xfffffff0 → wrapped (z + n2) ≡ wrapped (lo v1 * 65536 + sext16 v2) + 4 * j
+places v1 wd1 wd2 v2 j y n1 n2 z e1 e2 e3 e4 e5 e6 l = let s = sext16_is v2 in omega arith
+
 module _ (w : World) (ok : Fits w) (s : State) (t : FlatState) (r : Related w s t) (f i q : ℕ) (labels : List ℕ) where
+  -- r12 behind the first word, which multiplies by four, and behind the second, which adds the high half of the table's address
+  abbrev offset_file : File ℕ
+  offset_file = put t.file (Gpr 12) (bit_and (wrapped (get 0 t.file (Gpr q) * 4) + get 0 t.file (Gpr q) / 1073741824) 4294967292)
+
+  abbrev high_file : File ℕ
+  high_file =
+      put offset_file (Gpr 12)
+      (wrapped (get 0 offset_file (Gpr 12) + wrapped (cast_unsigned w32 (half_field (loaded_word w.image (place_at w f i + 4))) * 65536)))
+
+  is_wide : (x y : ℕ) → 12 < length (put (put t.file (Gpr 12) x) (Gpr 12) y).gprs
+  is_wide x y =
+      let wide = r.files.wide in
+      let one = length-set t.file.gprs 12 x in
+      let two = length-set (put t.file (Gpr 12) x).gprs 12 y in omega arith
+
+  -- what the third word loads
+  table_loads : (j d : ℕ) → get 0 t.file (Gpr q) ≡ j → TableWord w (table_address w.image (place_at w f i) + 4 * j) d
+      → loaded t.mem Word
+      (wrapped (get 0 high_file (Gpr 12) + cast_unsigned w32 (half_field (loaded_word w.image (place_at w f i + 4 + 4)))))
+      ≡ Some d
+  table_loads j d ej table =
+      let wide = r.files.wide in
+      let tb = table.below in
+      let wd1 = loaded_word w.image (place_at w f i + 4) in
+      let wd2 = loaded_word w.image (place_at w f i + 4 + 4) in
+      let v = get 0 t.file (Gpr q) in
+      let x1 = bit_and (wrapped (v * 4) + v / 1073741824) 4294967292 in
+      let x1_is : x1 ≡ 4 * v = and_shift v (omega arith) in
+      let r1 : get 0 offset_file (Gpr 12) ≡ x1 = get_or-set_same t.file.gprs 12 x1 0 (omega arith) in
+      let x2 = wrapped (get 0 offset_file (Gpr 12) + wrapped (cast_unsigned w32 (half_field wd1) * 65536)) in
+      let wide1 = length-set t.file.gprs 12 x1 in
+      let r2 : get 0 high_file (Gpr 12) ≡ x2 = get_or-set_same offset_file.gprs 12 x2 0 (omega arith) in
+      let c1 : cast_unsigned w32 (half_field wd1) ≡ spread (lo wd1) = short_word (lo wd1) (omega arith) in
+      let c2 : cast_unsigned w32 (half_field wd2) ≡ spread (lo wd2) = short_word (lo wd2) (omega arith) in
+      let a_is =
+      places wd1 wd1 wd2 (loaded_word w.image (place_at w f i + 8)) j (get 0 offset_file (Gpr 12)) _ _ _
+      (r1 ∙ x1_is ∙ ap (λ z. 4 * z) ej) c1 c2 r2 refl (ap (loaded_word w.image) (eight (place_at w f i))) tb in
+      ap (loaded t.mem Word) a_is ∙ table_load w t r.same _ _ table
+
+  table_files : (x y d n : ℕ)
+      → FilesAgree w s.live s.next (put (put s.file (Gpr 12) Undef) Ctr Undef)
+      (put (put (put (put t.file (Gpr 12) x) (Gpr 12) y) (Gpr 12) d) Ctr n)
+  table_files x y d n =
+      let m : (x : ℕ) → Means w s.live s.next Undef x = λ x. record { named = tt; shows = tt } in
+      let f1 = put_law w s.live s.next s.file t.file r.files (Gpr 12) Undef x ((λ e. omega arith), (λ e. omega arith)) (m x) in
+      let f2 = put_law w s.live s.next _ _ f1 (Gpr 12) Undef y ((λ e. omega arith), (λ e. omega arith)) (m y) in
+      let f3 = put_law w s.live s.next _ _ f2 (Gpr 12) Undef d ((λ e. omega arith), (λ e. omega arith)) (m d) in
+      let f4 = put_law w s.live s.next _ _ f3 Ctr Undef n tt (m n) in
+      let once : put (put (put s.file (Gpr 12) Undef) (Gpr 12) Undef) (Gpr 12) Undef ≡ put s.file (Gpr 12) Undef =
+      twice (put s.file (Gpr 12) Undef) ∙ twice s.file in
+      subst (λ z. FilesAgree w s.live s.next (put z Ctr Undef) (put (put (put (put t.file (Gpr 12) x) (Gpr 12) y) (Gpr 12) d) Ctr n)) once f4
+
   table_case : (j : ℕ) → get 0 t.file (Gpr q) ≡ j → j < length labels → Stands w t f i (instrs.Btbl q labels)
       → Spelts w (place_at w f i) (table_forms q)
       → Goes w t (asm.Went (record s {
@@ -104,54 +168,25 @@ module _ (w : World) (ok : Fits w) (s : State) (t : FlatState) (r : Related w s 
       let pl = ok.places f la.place h.known (omega arith) in
       let below = pl.below in let al = pl.aligned in let is = la.is in
       let d = label_address w.image (w.function_at f) (code_of w.program f) lb.0 in
-      let wd1 = loaded_word w.image (at + 4) in
-      let wd2 = loaded_word w.image (at + 4 + 4) in
-      let tb = table.below in
-      let x1 = bit_and (wrapped (get 0 t.file (Gpr q) * 4) + get 0 t.file (Gpr q) / 1073741824) 4294967292 in
-      let x1_is : x1 ≡ 4 * get 0 t.file (Gpr q) = and_shift (get 0 t.file (Gpr q)) (omega arith) in
-      let g1 = put t.file (Gpr 12) x1 in
-      let t1 : FlatState = record { file = g1; pc = following t; mem = t.mem } in
       let b1 = sp.0.code.below in let b2 = sp.1.0.code.below in let b3 = sp.1.1.0.code.below in let b4 = sp.1.1.1.0.code.below in
       let b5 = sp.1.1.1.1.0.code.below in
+      let t1 : FlatState = record { file = offset_file; pc = following t; mem = t.mem } in
       let e1 = then_is w t (fetch_law w t _ _ sp.0.code r.same h.here) (ap (λ g. on t g t.mem) (rotate_file t.file q)) in
-      let r1 : get 0 g1 (Gpr 12) ≡ x1 = get_or-set_same t.file.gprs 12 x1 0 (omega arith) in
       let p1 : t1.pc ≡ at + 4 = omega arith in
-      let n1 = wrapped (cast_unsigned w32 (half_field wd1) * 65536) in
-      let x2 = wrapped (get 0 g1 (Gpr 12) + n1) in
-      let g2 = put g1 (Gpr 12) x2 in
-      let t2 : FlatState = record { file = g2; pc = following t1; mem = t.mem } in
-      let e2 = then_is w t1 (fetch_law w t1 _ _ sp.1.0.code r.same p1) (ap (λ g. on t1 g t.mem) (sum_file g1 n1)) in
-      let wide1 = length-set t.file.gprs 12 x1 in
-      let r2 : get 0 g2 (Gpr 12) ≡ x2 = get_or-set_same g1.gprs 12 x2 0 (omega arith) in
+      let t2 : FlatState = record { file = high_file; pc = following t1; mem = t.mem } in
+      let e2 = then_is w t1 (fetch_law w t1 _ _ sp.1.0.code r.same p1) (ap (λ g. on t1 g t.mem) (sum_file offset_file _)) in
       let p2 : t2.pc ≡ at + 4 + 4 = omega arith in
-      let a = wrapped (get 0 g2 (Gpr 12) + cast_unsigned w32 (half_field wd2)) in
-      let c1 : cast_unsigned w32 (half_field wd1) ≡ spread (lo wd1) = short_word (lo wd1) (omega arith) in
-      let c2 : cast_unsigned w32 (half_field wd2) ≡ spread (lo wd2) = short_word (lo wd2) (omega arith) in
-      let a_is : a ≡ table_address w.image at + 4 * j =
-      places (loaded_word w.image (at + 4)) wd1 wd2 (loaded_word w.image (at + 8)) j (get 0 g1 (Gpr 12)) _ _ _ (r1 ∙ x1_is
-      ∙ ap (λ z. 4 * z) ej) c1 c2 r2 refl (ap (loaded_word w.image) (eight at)) tb in
-      let ld : loaded t.mem Word a ≡ Some d = ap (loaded t.mem Word) a_is ∙ table_load w t r.same _ _ table in
-      let g3 = put g2 (Gpr 12) d in
+      let g3 = put high_file (Gpr 12) d in
       let t3 : FlatState = record { file = g3; pc = following t2; mem = t.mem } in
-      let e3 = then_is w t2 (fetch_law w t2 _ _ sp.1.1.0.code r.same p2) (ap (got t2 (Gpr 12)) ld) in
-      let wide2 = length-set g1.gprs 12 x2 in
-      let r3 : get 0 g3 (Gpr 12) ≡ d = get_or-set_same g2.gprs 12 d 0 (omega arith) in
+      let e3 = then_is w t2 (fetch_law w t2 _ _ sp.1.1.0.code r.same p2) (ap (got t2 (Gpr 12)) (table_loads j d ej table)) in
+      let r3 : get 0 g3 (Gpr 12) ≡ d = get_or-set_same high_file.gprs 12 d 0 (is_wide _ _) in
       let p3 : t3.pc ≡ at + 4 + 4 + 4 = omega arith in
-      let g4 = put g3 Ctr (get 0 g3 (Gpr 12)) in
-      let t4 : FlatState = record { file = g4; pc = following t3; mem = t.mem } in
+      let t4 : FlatState = record { file = put g3 Ctr (get 0 g3 (Gpr 12)); pc = following t3; mem = t.mem } in
       let e4 = then_is w t3 (fetch_law w t3 _ _ sp.1.1.1.0.code r.same p3) (ap (λ g. on t3 g t.mem) (count_file g3)) in
       let p4 : t4.pc ≡ at + 4 + 4 + 4 + 4 = omega arith in
-      let t5 : FlatState = record { file = g4; pc = aligned (get 0 g3 (Gpr 12)); mem = t.mem } in
+      let t5 : FlatState = record { file = t4.file; pc = aligned (get 0 g3 (Gpr 12)); mem = t.mem } in
       let e5 = fetch_law w t4 _ _ sp.1.1.1.1.0.code r.same p4 in
-      let goes : aligned (get 0 g3 (Gpr 12)) ≡ wrapped d = omega arith in
-      let m : (x : ℕ) → Means w s.live s.next Undef x = λ x. record { named = tt; shows = tt } in
-      let f1 = put_law w s.live s.next s.file t.file r.files (Gpr 12) Undef x1 ((λ e. omega arith), (λ e. omega arith)) (m x1) in
-      let f2 = put_law w s.live s.next _ _ f1 (Gpr 12) Undef x2 ((λ e. omega arith), (λ e. omega arith)) (m x2) in
-      let f3 = put_law w s.live s.next _ _ f2 (Gpr 12) Undef d ((λ e. omega arith), (λ e. omega arith)) (m d) in
-      let f4 = put_law w s.live s.next _ _ f3 Ctr Undef (get 0 g3 (Gpr 12)) tt (m _) in
-      let once : put (put (put s.file (Gpr 12) Undef) (Gpr 12) Undef) (Gpr 12) Undef ≡ put s.file (Gpr 12) Undef =
-      twice (put s.file (Gpr 12) Undef) ∙ twice s.file in
-      let f5 = subst (λ z. FilesAgree w s.live s.next (put z Ctr Undef) g4) once f4 in (
+      let goes : aligned (get 0 g3 (Gpr 12)) ≡ wrapped d = omega arith in (
         5,
         omega arith,
         (
@@ -161,7 +196,7 @@ module _ (w : World) (ok : Fits w) (s : State) (t : FlatState) (r : Related w s 
             laid = r.laid;
             frame = r.frame;
             pointer = put_spares s.file (Gpr 12) Undef (λ e. omega arith) ∙ r.pointer;
-            files = f5;
+            files = table_files _ _ d _;
             cells = r.cells;
             same = r.same;
             place = label_agrees w ok s.live s.next f (slice_index_or labels j 0) _ h.known
@@ -170,17 +205,6 @@ module _ (w : World) (ok : Fits w) (s : State) (t : FlatState) (r : Related w s 
           },
         ),
       )
-    where
-      eight : (a : ℕ) → a + 8 ≡ a + 4 + 4
-      eight a = omega arith
-
-      twice : (g : File Val) → put (put g (Gpr 12) Undef) (Gpr 12) Undef ≡ put g (Gpr 12) Undef
-      twice g = ap (λ l. record g { gprs = l }) (set-set g.gprs 12 Undef Undef)
-
-      places : (v1 wd1 wd2 v2 j y n1 n2 z : ℕ) → y ≡ 4 * j → n1 ≡ spread (lo wd1) → n2 ≡ spread (lo wd2)
-          → z ≡ wrapped (y + wrapped (n1 * 65536)) → v1 ≡ wd1 → v2 ≡ wd2
-          → wrapped (lo v1 * 65536 + sext16 v2) + 4 * j + 4 ≤ 0xfffffff0 → wrapped (z + n2) ≡ wrapped (lo v1 * 65536 + sext16 v2) + 4 * j
-      places v1 wd1 wd2 v2 j y n1 n2 z e1 e2 e3 e4 e5 e6 l = let s = sext16_is v2 in omega arith
 
   pub table_step : Stands w t f i (instrs.Btbl q labels) → Goes w t (tabled w.program f s labels (get Undef s.file (Gpr q)))
   unfolding forms

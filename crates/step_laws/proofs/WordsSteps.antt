@@ -79,6 +79,61 @@ pub high : (x : ℕ) → x < 4294967296 → wrapped (0 + wrapped (cast_unsigned 
 high x h = ap (λ z. wrapped (0 + wrapped (z * 65536))) (short_word (hi x) (omega arith)) ∙ shifts (hi x) (omega arith)
 
 module _ (w : World) (ok : Fits w) (s : State) (t : FlatState) (r : Related w s t) (f i d n : ℕ) where
+  -- two words
+  pair_step : Stands w t f i (instrs.Imm d n)
+      → Spelts w (place_at w f i) (closed (addis d 0 (short (hi (wrapped n)))) ∷ closed (ori d d (lo (wrapped n))) ∷ [])
+      → instr_length (instrs.Imm d n) (loaded_word w.image (place_at w f i)) ≡ 2
+      → Goes w t (asm.Went (gone s f i (put s.file (Gpr d) (Int (wrapped n)))))
+  pair_step h sp l fits =
+      let x1 = wrapped (hi (wrapped n) * 65536) in
+      let g1 = put t.file (Gpr d) x1 in
+      let b1 = sp.0.code.below in
+      let b2 = sp.1.0.code.below in
+      let hh = h.here in
+      let t1 : FlatState = record { file = g1; pc = following t; mem = t.mem } in
+      let p1 : t1.pc ≡ place_at w f i + 4 = omega arith in
+      let e1 = then_is w t (fetch_law w t _ _ sp.0.code r.same h.here)
+      (ap (λ g. on t g t.mem) (set_file t.file d _ x1 (high (wrapped n) (omega arith)))) in
+      let x2 = bit_or (get 0 g1 (Gpr d)) (lo (wrapped n)) in
+      let g2 = put g1 (Gpr d) x2 in
+      let t2 : FlatState = record { file = g2; pc = following t1; mem = t.mem } in
+      let e2 = then_is w t1 (fetch_law w t1 _ _ sp.1.0.code r.same p1) (ap (λ g. on t1 g t.mem) (or_file g1 d (lo (wrapped n)))) in
+      let free = free_of (Gpr d) h.facts.shaped.free in
+      let f1 = put_law w s.live s.next s.file t.file r.files (Gpr d) Undef x1 free (record { named = tt; shows = tt }) in
+      let f2 = put_law w s.live s.next _ _ f1 (Gpr d) (Int (wrapped n)) x2 free (or_means g1 refl) in
+      let once : put (put s.file (Gpr d) Undef) (Gpr d) (Int (wrapped n)) ≡ put s.file (Gpr d) (Int (wrapped n)) =
+      ap (λ l. record s.file { gprs = l }) (set-set s.file.gprs d Undef (Int (wrapped n))) in (
+        2,
+        omega arith,
+        (
+          t2,
+          (t1, e1, (t2, e2, refl)),
+          record {
+            laid = r.laid;
+            frame = r.frame;
+            pointer = put_spares s.file (Gpr d) _ (spare_of (Gpr d) h.facts.shaped.free) ∙ r.pointer;
+            files = subst (λ z. FilesAgree w s.live s.next z g2) once f2;
+            cells = r.cells;
+            same = r.same;
+            place = next_place w s.live s.next f i (instrs.Imm d n) 2 h.known h.is h.facts l (following t1) (omega arith);
+          },
+        ),
+      )
+    where
+      small : d < 32
+      small = register_small _ _ d 0 _ sp.0.code.is
+
+      or_means : (g : File ℕ) → g ≡ put t.file (Gpr d) (wrapped (hi (wrapped n) * 65536))
+          → Means w s.live s.next (Int (wrapped n)) (bit_or (get 0 g (Gpr d)) (lo (wrapped n)))
+      or_means g e3 =
+          let wide = r.files.wide in
+          let lt = small in
+          let got : get 0 g (Gpr d) ≡ wrapped (hi (wrapped n) * 65536) =
+          ap (λ (y : File ℕ). get 0 y (Gpr d)) e3
+          ∙ get_or-set_same t.file.gprs d (wrapped (hi (wrapped n) * 65536)) 0 (omega arith) in
+          int_means w s.live s.next _ _ (ap (λ y. bit_or y (lo (wrapped n))) got
+          ∙ or_halves (hi (wrapped n)) (lo (wrapped n)) (omega arith) (omega arith) ∙ joins (wrapped n))
+
   pub imm_step : Stands w t f i (instrs.Imm d n) → Goes w t (asm.Went (gone s f i (put s.file (Gpr d) (Int (wrapped n)))))
   unfolding forms instr_length
   imm_step h = at (is_s16 (signed_word (wrapped n))) refl h.facts.spelt refl
@@ -114,52 +169,4 @@ module _ (w : World) (ok : Fits w) (s : State) (t : FlatState) (r : Related w s 
               moves_on w s t r f i (instrs.Imm d n) _ _ (put t.file (Gpr d) x) h sp.0.code l
               (ap (λ g. on t g t.mem) (set_file t.file d _ x (high (wrapped n) (omega arith)))) (files x xe)
               (put_spares s.file (Gpr d) _ (spare_of (Gpr d) h.facts.shaped.free))
-          two false q sp l = λ fits.
-              let x1 = wrapped (hi (wrapped n) * 65536) in
-              let g1 = put t.file (Gpr d) x1 in
-              let b1 = sp.0.code.below in
-              let b2 = sp.1.0.code.below in
-              let hh = h.here in
-              let t1 : FlatState = record { file = g1; pc = following t; mem = t.mem } in
-              let p1 : t1.pc ≡ place_at w f i + 4 = omega arith in
-              let e1 = then_is w t (fetch_law w t _ _ sp.0.code r.same h.here)
-              (ap (λ g. on t g t.mem) (set_file t.file d _ x1 (high (wrapped n) (omega arith)))) in
-              let x2 = bit_or (get 0 g1 (Gpr d)) (lo (wrapped n)) in
-              let g2 = put g1 (Gpr d) x2 in
-              let t2 : FlatState = record { file = g2; pc = following t1; mem = t.mem } in
-              let e2 = then_is w t1 (fetch_law w t1 _ _ sp.1.0.code r.same p1) (ap (λ g. on t1 g t.mem) (or_file g1 d (lo (wrapped n)))) in
-              let free = free_of (Gpr d) h.facts.shaped.free in
-              let f1 = put_law w s.live s.next s.file t.file r.files (Gpr d) Undef x1 free (record { named = tt; shows = tt }) in
-              let f2 = put_law w s.live s.next _ _ f1 (Gpr d) (Int (wrapped n)) x2 free (or_means g1 refl) in
-              let once : put (put s.file (Gpr d) Undef) (Gpr d) (Int (wrapped n)) ≡ put s.file (Gpr d) (Int (wrapped n)) =
-              ap (λ l. record s.file { gprs = l }) (set-set s.file.gprs d Undef (Int (wrapped n))) in (
-                2,
-                omega arith,
-                (
-                  t2,
-                  (t1, e1, (t2, e2, refl)),
-                  record {
-                    laid = r.laid;
-                    frame = r.frame;
-                    pointer = put_spares s.file (Gpr d) _ (spare_of (Gpr d) h.facts.shaped.free) ∙ r.pointer;
-                    files = subst (λ z. FilesAgree w s.live s.next z g2) once f2;
-                    cells = r.cells;
-                    same = r.same;
-                    place = next_place w s.live s.next f i (instrs.Imm d n) 2 h.known h.is h.facts l (following t1) (omega arith);
-                  },
-                ),
-              )
-            where
-              small : d < 32
-              small = register_small _ _ d 0 _ sp.0.code.is
-
-              or_means : (g : File ℕ) → g ≡ put t.file (Gpr d) (wrapped (hi (wrapped n) * 65536))
-                  → Means w s.live s.next (Int (wrapped n)) (bit_or (get 0 g (Gpr d)) (lo (wrapped n)))
-              or_means g e3 =
-                  let wide = r.files.wide in
-                  let lt = small in
-                  let got : get 0 g (Gpr d) ≡ wrapped (hi (wrapped n) * 65536) =
-                  ap (λ (y : File ℕ). get 0 y (Gpr d)) e3
-                  ∙ get_or-set_same t.file.gprs d (wrapped (hi (wrapped n) * 65536)) 0 (omega arith) in
-                  int_means w s.live s.next _ _ (ap (λ y. bit_or y (lo (wrapped n))) got
-                  ∙ or_halves (hi (wrapped n)) (lo (wrapped n)) (omega arith) (omega arith) ∙ joins (wrapped n))
+          two false q sp l = pair_step h sp l

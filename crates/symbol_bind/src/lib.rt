@@ -8,6 +8,4 @@ mod known;
 mod left;
 pub mod narrow;
 pub mod offers;
-#[cfg(test)]
-mod tests;
 pub mod uses;

@@ -3,5 +3,3 @@
 
 pub mod index;
 pub mod steps;
-#[cfg(test)]
-mod tests;

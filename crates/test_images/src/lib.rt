@@ -4,5 +4,3 @@
 pub mod image;
 pub mod layouts;
 pub mod lines;
-#[cfg(test)]
-mod tests;
